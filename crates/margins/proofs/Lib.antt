@@ -1,0 +1,4 @@
+pub mod Worths
+pub mod Bounds
+pub mod Settles
+pub mod Workings

@@ -1,0 +1,10 @@
+pub mod Meaning
+pub mod MeaningLaws
+pub mod Sound
+pub mod SoundLaws
+pub mod Refusals
+pub mod Table
+pub mod TableLaws
+pub mod Joined
+pub mod JoinedLaws
+pub mod Shown

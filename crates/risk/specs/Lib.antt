@@ -1,0 +1,4 @@
+pub mod Groups
+pub mod Signs
+pub mod Losses
+pub mod Initial

@@ -1,0 +1,5 @@
+pub mod Codes
+pub mod Collateral
+pub mod Limits
+pub mod Lists
+pub mod Numbers

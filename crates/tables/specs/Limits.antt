@@ -1,0 +1,43 @@
+-- The limits of rows.
+-- trade-keeps: a trade's benchmark, side, notional and fixed rate are in range.
+-- trades-stand: at most 64 trades, each in range.
+-- holdings-keep: cash, lots, levels and the number of trades of an account are in range.
+-- security-keeps: price and haircut of a security are in range.
+-- no-trade, no-security: the rows that `getD` gives past the end of a table.
+use mathlib.Core.Bool.{Bool, false, _&&_}
+use mathlib.Core.List.{List}
+use Prim.Native.Nat.{ℕ}
+use lib.Dec.{leb}
+use lib.ListN.{length}
+use Rattle.tables.specs.declared.row.AccountRow.{AccountRow}
+use Rattle.tables.specs.declared.row.Levels.{Levels}
+use Rattle.tables.specs.declared.row.SecurityRow.{SecurityRow}
+use Rattle.tables.specs.declared.row.TradeRow.{TradeRow}
+use Rattle.tables.specs.Lists.{all-by}
+
+abbrev pub no-trade : TradeRow
+no-trade = record { number = 0; benchmark = 0; side = 0; maturity = 0; notional = 0; rate = 0 }
+
+abbrev pub no-security : SecurityRow
+no-security = record { price = 0; haircut = 0; listed = false }
+
+abbrev pub trade-keeps : TradeRow → Bool
+trade-keeps t =
+    leb (t .benchmark) 3 && (leb (t .side) 1 && (leb 1 (t .notional) && (leb (t .notional) 1000000 && leb (t .rate) 200000)))
+
+abbrev pub trades-stand : List TradeRow → Bool
+trades-stand ts = leb (length ts) 64 && all-by trade-keeps ts
+
+abbrev pub lots-keep : List ℕ → Bool
+lots-keep ls = all-by (λ n. leb n 1000000) ls
+
+abbrev pub levels-keep : Levels → Bool
+levels-keep l = leb (l .initial) 2 && leb (l .gross) 2
+
+abbrev pub holdings-keep : AccountRow → Bool
+holdings-keep r =
+    leb (r .cash) 100000000000000
+    && (leb (r .trades) 64 && (levels-keep (r .overnight) && (levels-keep (r .forward) && lots-keep (r .lots))))
+
+abbrev pub security-keeps : SecurityRow → Bool
+security-keeps s = leb (s .price) 30000 && leb (s .haircut) 100

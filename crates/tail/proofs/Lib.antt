@@ -1,0 +1,4 @@
+pub mod Places
+pub mod Kths
+pub mod Crosses
+pub mod Orders
