@@ -1,3 +1,4 @@
 pub mod Alls
+pub mod Books
 pub mod Facts
 pub mod Numbers

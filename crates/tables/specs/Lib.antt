@@ -1,3 +1,4 @@
+pub mod Books
 pub mod Codes
 pub mod Collateral
 pub mod Limits

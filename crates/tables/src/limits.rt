@@ -17,7 +17,7 @@ pub fn trade_keeps(trade: &TradeRow) -> bool
         && trade.rate <= 200_000
 }
 
-fn each_keeps(trades: &[TradeRow]) -> bool
+pub(crate) fn each_keeps(trades: &[TradeRow]) -> bool
     ensures { λ r. ⌜ r ≡ all-by trade-keeps (now (trades .entry)) ⌝ }
 {
     for trade in trades {

@@ -10,6 +10,14 @@ use super::Market;
 use tables::codes::Family;
 
 impl Market {
+    // The making after the check `market_keeps`.
+    pub fn new(state: MarketState) -> Market
+        requires { ⌜ market-keeps state ≡ true ⌝ }
+        ensures { λ r. ⌜ r .state ≡ state ⌝ }
+    {
+        Market { state }
+    }
+
     // None where a number is out of range.
     pub fn from_state(state: MarketState) -> Option<Market>
         ensures { λ r. ⌜ BySome r (market-keeps state ≡ false) (λ m. m .state ≡ state) ⌝ }

@@ -8,6 +8,14 @@ use super::super::row::AccountRow;
 use super::Account;
 
 impl Account {
+    // The making after question 1.
+    pub fn new(row: AccountRow) -> Account
+        requires { ⌜ holdings-keep row ≡ true ⌝ }
+        ensures { λ r. ⌜ r .row ≡ row ⌝ }
+    {
+        Account { row }
+    }
+
     // None where the holdings are out of range.
     pub fn from_row(row: AccountRow) -> Option<Account>
         ensures { λ r. ⌜ BySome r (holdings-keep row ≡ false) (λ a. a .row ≡ row) ⌝ }

@@ -1,0 +1,10 @@
+pub mod Numbers
+pub mod Kinds
+pub mod Faults
+pub mod Record
+pub mod Steps
+pub mod Files
+pub mod Left
+pub mod Encoded
+pub mod Readings
+pub mod Worked
