@@ -1,4 +1,6 @@
 // One account: how it settles, what a call on it asks and changes, and what the call would leave.
+#![tactic(auto)]
+
 mod asking;
 pub mod book;
 mod changing;

@@ -1,4 +1,6 @@
 // An event file played on a house, and the lines that the run prints.
+#![tactic(auto)]
+
 pub mod calls;
 pub mod lines;
 pub mod play;

@@ -1,4 +1,6 @@
 // The calls of a house over the tables that its caller lends.
+#![tactic(auto)]
+
 pub mod account;
 pub mod market;
 mod maturing;

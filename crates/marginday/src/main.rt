@@ -1,4 +1,6 @@
 // Plays the script on standard input and prints the answer to each line.
+#![tactic(auto)]
+
 use scriptrun::run::transcript;
 use std::io::{Read, Write};
 

@@ -1,4 +1,6 @@
 // Reads an event file from standard input and prints the answer to each record.
+#![tactic(auto)]
+
 use eventrun::lines::transcript;
 use events::reader::next::MOST_BYTES;
 use std::io::{Read, Write};

@@ -1,4 +1,6 @@
 // The market: its state, the figures that depend on it alone, and its calls.
+#![tactic(auto)]
+
 mod asking;
 pub mod call;
 mod changing;

@@ -1,4 +1,6 @@
 // Margin models: what a model means, the makes of it, and the checks before a making.
+#![tactic(auto)]
+
 pub mod check;
 pub mod joined;
 pub mod model;

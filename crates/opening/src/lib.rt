@@ -1,2 +1,4 @@
 // The opening of a house.
+#![tactic(auto)]
+
 pub mod opening;

@@ -1,2 +1,4 @@
 // Why a call is refused, and how questions are asked.
+#![tactic(auto)]
+
 pub mod refusal;

@@ -1,4 +1,6 @@
 // The risk of trades: groups, losses over the scenarios, value at risk, and the initial margin of one benchmark.
+#![tactic(auto)]
+
 pub mod figures;
 mod flows;
 pub mod gather;

@@ -1,4 +1,6 @@
 // The lines of a script: what each asks for.
+#![tactic(auto)]
+
 pub mod command;
 mod fields;
 pub mod lines;

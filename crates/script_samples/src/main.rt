@@ -1,5 +1,7 @@
 // Plays sample scripts and compares what each run prints with its expected lines.
 // Arguments: the names of the samples. For each NAME the files NAME.script and NAME.expected are read.
+#![tactic(auto)]
+
 use scriptrun::run::transcript;
 use std::{env, fs};
 

@@ -1,6 +1,8 @@
 // Prints a statement of every margin figure of one account on a table model, a knot model and their
 // join, and then the worked figures with what they should be.
 // Arguments: the account's file, the table model's file, the knot model's file.
+#![tactic(auto)]
+
 mod account_file;
 mod report;
 mod worked;

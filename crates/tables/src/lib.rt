@@ -1,4 +1,6 @@
 // Rows of the tables that a caller lends, their limits, and the values that carry those limits.
+#![tactic(auto)]
+
 pub mod account;
 pub mod checking;
 pub mod codes;
