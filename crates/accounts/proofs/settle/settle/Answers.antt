@@ -16,5 +16,5 @@ returns g c =
       keeps = figured_keeps c.paise.result c.row-row.result f row.keeps e.levels.0 e.levels.1.0 e.levels.1.1.0 e.levels.1.1.1;
       obligation = omega (arith, e.obligation, paise.value);
       available = e.available;
-      shortfall = omega (arith, e.obligation, paise.value, c.saturating-sub.ensures);
+      shortfall = omega (arith, e.obligation, paise.value, c.saturating_sub.ensures);
     }

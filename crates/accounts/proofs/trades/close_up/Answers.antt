@@ -19,4 +19,4 @@ closing {X} xs ys a z h e =
     ∙ set_at (p ++ r) x [] z (length xs - 1) (omega (arith, length-remove xs a h))
 
 pub returns : goal.returns
-returns c = closing c.args.places.now c.rotate-left.new.self c.args.at _ c.requires c.rotate-left.ensures.after
+returns c = closing c.args.places.now c.rotate_left.new.self c.args.at _ c.requires c.rotate_left.ensures.after

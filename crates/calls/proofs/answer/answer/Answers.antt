@@ -14,8 +14,8 @@ returns-in-Account g c =
     let ts = c.args.trades.now in
     record {
       accounts = refl;
-      answered = subst (λ (x : Call). AnswersCall m k k n rs c.answer-account.new.records ts c.answer-account.new.trades x (AccountReply c.answer-account.result)) (sym c.in-Account.is)
-          (account_promised m k n rs c.answer-account.new.records ts c.answer-account.new.trades c.in-Account.named c.answer-account.result c.answer-account.ensures);
+      answered = subst (λ (x : Call). AnswersCall m k k n rs c.answer_account.new.records ts c.answer_account.new.trades x (AccountReply c.answer_account.result)) (sym c.in-Account.is)
+          (account_promised m k n rs c.answer_account.new.records ts c.answer_account.new.trades c.in-Account.named c.answer_account.result c.answer_account.ensures);
     }
 
 pub returns-in-Market : goal.returns-in-Market
@@ -25,9 +25,9 @@ returns-in-Market g c =
     let n = c.args.house.now.accounts in
     let rs = c.args.records.now in
     let ts = c.args.trades.now in
-    let l = c.answer-market.new.house.market.state in
+    let l = c.answer_market.new.house.market.state in
     record {
-      accounts = c.answer-market.ensures.accounts;
-      answered = subst (λ (x : Call). AnswersCall m k l n rs c.answer-market.new.records ts c.answer-market.new.trades x (MarketReply c.answer-market.result)) (sym c.in-Market.is)
-          (market_promised m k n rs c.answer-market.new.records ts c.answer-market.new.trades l c.in-Market.change c.answer-market.result c.answer-market.ensures.answered);
+      accounts = c.answer_market.ensures.accounts;
+      answered = subst (λ (x : Call). AnswersCall m k l n rs c.answer_market.new.records ts c.answer_market.new.trades x (MarketReply c.answer_market.result)) (sym c.in-Market.is)
+          (market_promised m k n rs c.answer_market.new.records ts c.answer_market.new.trades l c.in-Market.change c.answer_market.result c.answer_market.ensures.answered);
     }

@@ -19,17 +19,17 @@ loop-i-preserved g c =
     let m = g.M.MarginModel.meaning c.args.model.now in
     let s : Stand = standing c.args.house.now.market.state c.args.records.now c.args.trades.now in
     let t : Stand = standing c.loop-i.house.market.state c.loop-i.records c.loop-i.trades in
-    let u : Stand = standing c.play-event-said.new.house.market.state c.play-event-said.new.records c.play-event-said.new.trades in
+    let u : Stand = standing c.play_event-said.new.house.market.state c.play_event-said.new.records c.play_event-said.new.trades in
     let es = c.args.events.now in
     let i = c.loop-i.i in
-    let e = c.play-event-said.ensures in
+    let e = c.play_event-said.ensures in
     let lt : i < length es = omega (arith, c.min-count.ensures) in
     let la : i < length c.loop-i.answers = omega (arith, c.min-count.ensures) in (
       e.accounts ∙ c.loop-i.invariant.0,
       e.keeps,
       run_more m s es i no_event lt t u c.loop-i.invariant.2 e.stands,
-      replies_more m s es i no_event lt t c.loop-i.answers c.play-event-said.result la c.loop-i.invariant.2 c.loop-i.invariant.3 e.replied,
-      rest_more c.loop-i.answers c.args.answers.now i c.play-event-said.result c.loop-i.invariant.4,
+      replies_more m s es i no_event lt t c.loop-i.answers c.play_event-said.result la c.loop-i.invariant.2 c.loop-i.invariant.3 e.replied,
+      rest_more c.loop-i.answers c.args.answers.now i c.play_event-said.result c.loop-i.invariant.4,
     )
 
 pub returns : goal.returns

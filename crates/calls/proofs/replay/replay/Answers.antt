@@ -6,14 +6,14 @@ use Rattle.house.proofs.Lent.{rows_stand, trades_stand}
 use Rattle.calls.proofs.Played.{isolated_run}
 use Rattle.calls.proofs.replay.replay.Goals as goal
 
-pub returns-then-not-tables-keep : goal.returns-then-not-tables-keep
-returns-then-not-tables-keep g c =
+pub returns-then-not-tables_keep : goal.returns-then-not-tables_keep
+returns-then-not-tables_keep g c =
     let m = g.M.MarginModel.meaning c.args.model.now in
     let n = c.args.house.now.accounts in
     let rs = c.args.records.now in
     let ts = c.args.trades.now in
     let s : Stand = standing c.args.house.now.market.state rs ts in
-    let h : tables_keep n rs ts ≡ false = sym c.if-not-tables-keep.ensures in
+    let h : tables_keep n rs ts ≡ false = sym c.if-not-tables_keep.ensures in
     record {
       accounts = refl;
       replays = record {
@@ -35,12 +35,12 @@ returns g c =
     let rs = c.args.records.now in
     let ts = c.args.trades.now in
     let s : Stand = standing c.args.house.now.market.state rs ts in
-    let h : tables_keep n rs ts ≡ true = sym c.if-not-tables-keep.ensures in
-    let e = c.play-events.ensures in
-    let r = c.play-events.result in
-    let l = c.play-events.new.house.market.state in
-    let us = c.play-events.new.records in
-    let vs = c.play-events.new.trades in
+    let h : tables_keep n rs ts ≡ true = sym c.if-not-tables_keep.ensures in
+    let e = c.play_events.ensures in
+    let r = c.play_events.result in
+    let l = c.play_events.new.house.market.state in
+    let us = c.play_events.new.records in
+    let vs = c.play_events.new.trades in
     let some = c.args.house.now.some in
     record {
       accounts = e.accounts;
@@ -52,6 +52,6 @@ returns g c =
         tables = λ _. (sym (rows_stand l n us vs some e.keeps) ∙ ap rows_of e.stands, sym (trades_stand l n us vs some e.keeps) ∙ ap trades_of e.stands);
         wrong = λ no'. absurd (true≢false (sym h ∙ no'));
         keeps = e.keeps ∙ sym h;
-        isolated = isolated_run m s (take r c.args.events.now) (take r c.play-events.new.answers) (standing l us vs) e.replied e.stands;
+        isolated = isolated_run m s (take r c.args.events.now) (take r c.play_events.new.answers) (standing l us vs) e.replied e.stands;
       };
     }

@@ -7,5 +7,5 @@ use Rattle.eventrun.proofs.play.play_records.Goals as goal
 pub returns-in-Some : goal.returns-in-Some
 returns-in-Some g c =
     let item = c.in-Some.ensures.item in
-    subst (λ (es : List Event). IfOk c.play-from.result (λ p. Plays (g.M.MarginModel.meaning c.args.model.now) es p))
-    (first_and_later c.args.events.now _ (search rules) item.1) c.play-from.ensures
+    subst (λ (es : List Event). IfOk c.play_from.result (λ p. Plays (g.M.MarginModel.meaning c.args.model.now) es p))
+    (first_and_later c.args.events.now _ (search rules) item.1) c.play_from.ensures

@@ -15,8 +15,8 @@ use Rattle.house.proofs.account.act.Goals as goal
 own_book : (n i : ℕ) (rs : List AccountRow) (ts : List TradeRow) → i < n → tables_keep n rs ts ≡ true → Booked (most_of i) (book (get_or rs i no_row) (places_at ts i))
 own_book n i rs ts l h = booked (most_of i) (book (get_or rs i no_row) (places_at ts i)) ((kept n rs ts h).each i l)
 
-pub read-book-held-requires : goal.read-book-held-requires
-read-book-held-requires g c =
+pub read_book-held-requires : goal.read_book-held-requires
+read_book-held-requires g c =
     let n = c.args.house.now.accounts in
     let rs = c.args.records.now in
     let ts = c.args.trades.now in
@@ -25,16 +25,16 @@ read-book-held-requires g c =
     let b = own_book n i rs ts c.requires.there c.requires.tables in
     (omega (arith, s.rows, c.requires.there), (omega (arith, s.places, c.requires.there), (b.holdings, b.places)))
 
-pub finish-settling-requires : goal.finish-settling-requires
-finish-settling-requires g c =
+pub finish_settling-requires : goal.finish_settling-requires
+finish_settling-requires g c =
     let n = c.args.house.now.accounts in
     let rs = c.args.records.now in
     let ts = c.args.trades.now in
     let i = c.args.account in
     let h = c.in-Ok.tried in
-    ap₂ (tables_keep n) c.write-book.ensures.rows c.write-book.ensures.trades
-    ∙ put_keeps n rs ts i h.row h.places c.requires.tables c.requires.there c.write-book.ensures.long
-    (after_keeps c.cover-for-cover.result.paise i h (shortfalls (drop 1 (books_of rs ts))) c.cover-for-cover.ensures c.cover-for-cover.result.most c.in-Ok.ensures.1)
+    ap₂ (tables_keep n) c.write_book.ensures.rows c.write_book.ensures.trades
+    ∙ put_keeps n rs ts i h.row h.places c.requires.tables c.requires.there c.write_book.ensures.long
+    (after_keeps c.cover_for-cover.result.paise i h (shortfalls (drop 1 (books_of rs ts))) c.cover_for-cover.ensures c.cover_for-cover.result.most c.in-Ok.ensures.1)
 
 pub returns-in-Err : goal.returns-in-Err
 returns-in-Err g c =
@@ -44,9 +44,9 @@ returns-in-Err g c =
     let i = c.args.account in
     let k = c.args.house.now.market.state in
     let m = g.M.MarginModel.meaning c.args.model.now in
-    let cover = c.cover-for-cover.result.paise in
-    let v = verdict_is m k n rs ts i c.args.call c.args.house.now.some c.requires.tables c.requires.there cover c.cover-for-cover.ensures
-    ∙ ap (λ (b : Book). ordered m k (eqb i 0) cover b c.args.call) (sym c.read-book-held.ensures)
+    let cover = c.cover_for-cover.result.paise in
+    let v = verdict_is m k n rs ts i c.args.call c.args.house.now.some c.requires.tables c.requires.there cover c.cover_for-cover.ensures
+    ∙ ap (λ (b : Book). ordered m k (eqb i 0) cover b c.args.call) (sym c.read_book-held.ensures)
     ∙ c.in-Err.ensures in
     let o = refused_is m k n rs ts i c.args.call c.args.house.now.some c.requires.tables c.requires.there c.in-Err.refusal v in
     record {
@@ -66,23 +66,23 @@ returns-in-Ok g c =
     let i = c.args.account in
     let k = c.args.house.now.market.state in
     let m = g.M.MarginModel.meaning c.args.model.now in
-    let cover = c.cover-for-cover.result.paise in
+    let cover = c.cover_for-cover.result.paise in
     let h = c.in-Ok.tried in
-    let v = verdict_is m k n rs ts i c.args.call c.args.house.now.some c.requires.tables c.requires.there cover c.cover-for-cover.ensures
-    ∙ ap (λ (b : Book). ordered m k (eqb i 0) cover b c.args.call) (sym c.read-book-held.ensures)
+    let v = verdict_is m k n rs ts i c.args.call c.args.house.now.some c.requires.tables c.requires.there cover c.cover_for-cover.ensures
+    ∙ ap (λ (b : Book). ordered m k (eqb i 0) cover b c.args.call) (sym c.read_book-held.ensures)
     ∙ c.in-Ok.ensures.0 in
-    let done = c.finish-settling.ensures.rows ∙ ap₂ (λ (us : List AccountRow) (xs : List TradeRow). rows_of (finish m (standing k us xs))) c.write-book.ensures.rows c.write-book.ensures.trades in
-    let o = granted_is m k n rs ts i c.args.call c.args.house.now.some c.requires.tables c.requires.there h.row h.places c.finish-settling.new.records v c.write-book.ensures.long done in
+    let done = c.finish_settling.ensures.rows ∙ ap₂ (λ (us : List AccountRow) (xs : List TradeRow). rows_of (finish m (standing k us xs))) c.write_book.ensures.rows c.write_book.ensures.trades in
+    let o = granted_is m k n rs ts i c.args.call c.args.house.now.some c.requires.tables c.requires.there h.row h.places c.finish_settling.new.records v c.write_book.ensures.long done in
     record {
       answer = c.answered-in-Ok.ensures ∙ o.0;
       rows = o.1;
-      trades = c.write-book.ensures.trades ∙ o.2;
-      keeps = c.finish-settling.ensures.keeps;
-      stands = ap (standing k c.finish-settling.new.records) c.write-book.ensures.trades ∙ o.3;
-      rests = λ _. c.finish-settling.ensures.rests;
+      trades = c.write_book.ensures.trades ∙ o.2;
+      keeps = c.finish_settling.ensures.keeps;
+      stands = ap (standing k c.finish_settling.new.records) c.write_book.ensures.trades ∙ o.3;
+      rests = λ _. c.finish_settling.ensures.rests;
     }
 
 pub bounds-records-account-in-Ok : goal.bounds-records-account-in-Ok
 bounds-records-account-in-Ok g c =
     let n = c.args.house.now.accounts in
-    omega (arith, (kept n c.finish-settling.new.records c.write-book.new.trades c.finish-settling.ensures.keeps).rows, c.requires.there)
+    omega (arith, (kept n c.finish_settling.new.records c.write_book.new.trades c.finish_settling.ensures.keeps).rows, c.requires.there)

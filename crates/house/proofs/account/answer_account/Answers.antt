@@ -16,7 +16,7 @@ returns-then-account-house g c =
     let ts = c.args.trades.now in
     let m = g.M.MarginModel.meaning c.args.model.now in
     let k = c.args.house.now.market.state in
-    let h : tables_keep n rs ts ≡ true = sym c.if-not-tables-keep.ensures in
+    let h : tables_keep n rs ts ≡ true = sym c.if-not-tables_keep.ensures in
     let e = outcome_kept m k n rs ts c.args.account c.args.call h in
     let o = absent m k n rs ts c.args.account c.args.call c.args.house.now.some h c.if-account-house.true in
     record {
@@ -36,7 +36,7 @@ returns g c =
     let ts = c.args.trades.now in
     let m = g.M.MarginModel.meaning c.args.model.now in
     let k = c.args.house.now.market.state in
-    let h : tables_keep n rs ts ≡ true = sym c.if-not-tables-keep.ensures in
+    let h : tables_keep n rs ts ≡ true = sym c.if-not-tables_keep.ensures in
     let e = outcome_kept m k n rs ts c.args.account c.args.call h in
     record {
       answer = c.act.ensures.answer ∙ sym (ap (λ (x : Outcome). x.answer) e);

@@ -6,8 +6,8 @@ use Rattle.tables.proofs.Books.{kept}
 use Rattle.house.proofs.Finishing.{shortfalls_fit, cover_books}
 use Rattle.house.proofs.account.cover_for.Goals as goal
 
-pub sum-shortfalls-requires : goal.sum-shortfalls-requires
-sum-shortfalls-requires c =
+pub sum_shortfalls-requires : goal.sum_shortfalls-requires
+sum_shortfalls-requires c =
     let n = c.args.house.now.accounts in
     let rs = c.args.records.now in
     let long = (kept n rs c.args.trades.now c.requires).rows in
@@ -22,8 +22,8 @@ constituents-requires c = omega (arith, (kept c.args.house.now.accounts c.args.r
 
 pub returns-then-account-eq0 : goal.returns-then-account-eq0
 returns-then-account-eq0 c =
-    (let e : c.of.result.paise ≡ c.sum-shortfalls.result = omega (arith, c.of.ensures, c.sum-shortfalls.ensures.bound) in e)
-    ∙ c.sum-shortfalls.ensures.value
+    (let e : c.of.result.paise ≡ c.sum_shortfalls.result = omega (arith, c.of.ensures, c.sum_shortfalls.ensures.bound) in e)
+    ∙ c.sum_shortfalls.ensures.value
     ∙ ap (sum_by (λ (r : AccountRow). r.shortfall)) c.constituents.ensures
     ∙ cover_books c.args.records.now c.args.trades.now
     ∙ sym (cond-true _ _ _ (eq-eqb c.args.account 0 c.if-account-eq0.true))

@@ -46,15 +46,15 @@ returns-in-Ok g c =
     ap (λ (x : ℕ). first_no (market_questions x k c.args.call)) (sym c.sets.ensures) ∙ was in
     let changed : c.take.new.self.state ≡ market_changed c.args.call k =
     c.take.ensures.state ∙ ap (λ (r : Result (Unit {0}) Refusal). decided r (market_changed c.args.call k) (λ x. k)) was in
-    let o = market_granted m k n rs ts c.args.call c.args.house.now.some c.requires c.take.new.self.state c.age.new.records c.settle-constituents.new.records c.finish-settling.new.records c.age.new.trades
-    asked changed c.age.ensures.books c.settle-constituents.ensures.books c.settle-constituents.ensures.keeps c.finish-settling.ensures.rows in
+    let o = market_granted m k n rs ts c.args.call c.args.house.now.some c.requires c.take.new.self.state c.age.new.records c.settle_constituents.new.records c.finish_settling.new.records c.age.new.trades
+    asked changed c.age.ensures.books c.settle_constituents.ensures.books c.settle_constituents.ensures.keeps c.finish_settling.ensures.rows in
     record {
       accounts = refl;
       answer = c.answered-in-Ok.ensures ∙ o.0;
       market = o.1;
       rows = o.2;
       trades = o.3;
-      keeps = c.finish-settling.ensures.keeps;
-      rests = λ nil. c.finish-settling.ensures.rests;
+      keeps = c.finish_settling.ensures.keeps;
+      rests = λ nil. c.finish_settling.ensures.rests;
       stands = o.4;
     }

@@ -15,12 +15,12 @@ returns c =
     let i = c.args.account in
     let s = 64 * i in
     let r = get_or rs i no_row in
-    let e = c.mature-places-left.ensures in
+    let e = c.mature_places-left.ensures in
     let w : (s + 64) - s ≡ 64 = omega arith in
     record {
       rows = ap (λ (n : ℕ). set rs i (with_trades r n)) (e.count ∙ ap (λ (n : ℕ). length (filter (running c.args.month) (take r.trades (take n (drop s ts))))) w);
       trades =
-          ap (λ (n : ℕ). put_mid s n ts c.mature-places-left.new.places) w
-          ∙ ap (λ (l : List TradeRow). take s ts ++ (c.mature-places-left.new.places ++ l)) (drop-drop 64 s ts)
+          ap (λ (n : ℕ). put_mid s n ts c.mature_places-left.new.places) w
+          ∙ ap (λ (l : List TradeRow). take s ts ++ (c.mature_places-left.new.places ++ l)) (drop-drop 64 s ts)
           ∙ ap (λ (l : List TradeRow). take s ts ++ (l ++ drop (s + 64) ts)) (e.places ∙ ap (λ (n : ℕ). closed_up (filter (running c.args.month) (take r.trades (take n (drop s ts))))) w);
     }

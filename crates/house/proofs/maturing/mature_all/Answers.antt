@@ -8,8 +8,8 @@ use Rattle.house.proofs.Matured.{matured_long, matured_keeps}
 use Rattle.house.proofs.Passes.{keeps_more, all_more}
 use Rattle.house.proofs.maturing.mature_all.Goals as goal
 
-pub mature-account-requires : goal.mature-account-requires
-mature-account-requires c =
+pub mature_account-requires : goal.mature_account-requires
+mature_account-requires c =
     let n = c.args.house.now.accounts in
     let rs = c.loop-i.records in
     let ts = c.loop-i.trades in
@@ -34,10 +34,10 @@ loop-i-preserved c =
     let b = book (get_or rs i no_row) (places_at ts i) in
     let whole : length (places_at ts i) ≡ 64 = length_places_at ts i (omega (arith, s.places, lt)) in
     let long = matured_long c.args.month b whole in
-    let er = c.mature-account.ensures.rows in
-    let et = c.mature-account.ensures.trades in (
-      keeps_more n f rs c.mature-account.new.records ts c.mature-account.new.trades i h lt long er et (matured_keeps (most_of i) c.args.month b whole (s.each i lt)),
-      all_more n f rs c.mature-account.new.records ts c.mature-account.new.trades i h lt long er et bs (omega (arith, length_books c.args.records.now c.args.trades.now, first.rows)) c.loop-i.invariant.1,
+    let er = c.mature_account.ensures.rows in
+    let et = c.mature_account.ensures.trades in (
+      keeps_more n f rs c.mature_account.new.records ts c.mature_account.new.trades i h lt long er et (matured_keeps (most_of i) c.args.month b whole (s.each i lt)),
+      all_more n f rs c.mature_account.new.records ts c.mature_account.new.trades i h lt long er et bs (omega (arith, length_books c.args.records.now c.args.trades.now, first.rows)) c.loop-i.invariant.1,
     )
 
 pub returns : goal.returns

@@ -16,8 +16,8 @@ use Rattle.house.proofs.settle.finish_settling.Goals as goal
 own_book : (n : ℕ) (rs : List AccountRow) (ts : List TradeRow) → 1 ≤ n → tables_keep n rs ts ≡ true → Booked 96000000000000000 (book (get_or rs 0 no_row) (places_at ts 0))
 own_book n rs ts some h = booked 96000000000000000 (book (get_or rs 0 no_row) (places_at ts 0)) ((kept n rs ts h).each 0 (omega arith))
 
-pub sum-shortfalls-requires : goal.sum-shortfalls-requires
-sum-shortfalls-requires g c =
+pub sum_shortfalls-requires : goal.sum_shortfalls-requires
+sum_shortfalls-requires g c =
     let n = c.args.house.now.accounts in
     let rs = c.args.records.now in
     let long = (kept n rs c.args.trades.now c.requires).rows in
@@ -27,8 +27,8 @@ sum-shortfalls-requires g c =
       each = subst (All (λ (r : AccountRow). r.shortfall ≤ 3000000000000000)) (sym e) (shortfalls_fit n rs c.args.trades.now c.requires);
     }
 
-pub settle-own-own-requires : goal.settle-own-own-requires
-settle-own-own-requires g c =
+pub settle_own-own-requires : goal.settle_own-own-requires
+settle_own-own-requires g c =
     let n = c.args.house.now.accounts in
     let b = own_book n c.args.records.now c.args.trades.now c.args.house.now.some c.requires in
     record {
@@ -45,10 +45,10 @@ returns g c =
     let k = c.args.house.now.market.state in
     let m = g.M.MarginModel.meaning c.args.model.now in
     let cover = c.of-cover.result.paise in
-    let sum : cover ≡ c.sum-shortfalls.result = omega (arith, c.of-cover.ensures, c.sum-shortfalls.ensures.bound) in
-    let o = finished m k n cover rs c.second-flags.new.rows ts c.settle-own-own.result
+    let sum : cover ≡ c.sum_shortfalls.result = omega (arith, c.of-cover.ensures, c.sum_shortfalls.ensures.bound) in
+    let o = finished m k n cover rs c.second_flags.new.rows ts c.settle_own-own.result
     (omega (arith, (kept n rs ts c.requires).rows, c.args.house.now.some)) c.requires
-    (sum ∙ c.sum-shortfalls.ensures.value ∙ ap (sum_by (λ (r : AccountRow). r.shortfall)) c.constituents.ensures)
-    c.settle-own-own.ensures.value
-    c.settle-own-own.ensures.keeps c.settle-own-own.ensures.figures c.second-flags.ensures in
+    (sum ∙ c.sum_shortfalls.ensures.value ∙ ap (sum_by (λ (r : AccountRow). r.shortfall)) c.constituents.ensures)
+    c.settle_own-own.ensures.value
+    c.settle_own-own.ensures.keeps c.settle_own-own.ensures.figures c.second_flags.ensures in
     record { rows = o.0; keeps = o.1; rests = tables_rest m k rs _ ts (omega (arith, (kept n rs ts c.requires).rows, c.args.house.now.some)) o.0 }

@@ -10,7 +10,7 @@ pub loop-i-preserved : goal.loop-i-preserved
 loop-i-preserved c =
     let h : c.loop-i.i < length c.loop-i.rows = omega arith in
     let x : AccountRow = get_or c.loop-i.rows c.loop-i.i no_row in
-    ap (set c.loop-i.rows c.loop-i.i) c.second-after-flag.ensures
+    ap (set c.loop-i.rows c.loop-i.i) c.second_after-flag.ensures
     ∙ map_over_more (row_reflagged c.args.restricted) c.args.rows.now c.loop-i.rows c.loop-i.i x
     c.loop-i-test.true c.loop-i.invariant (get_or_default c.loop-i.rows c.loop-i.i no_row x h)
 

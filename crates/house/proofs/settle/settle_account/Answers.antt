@@ -6,4 +6,4 @@ use Rattle.house.proofs.settle.settle_account.Goals as goal
 
 pub new-standing-requires : goal.new-standing-requires
 new-standing-requires g c =
-    ap trades_stand c.standing-rows.ensures ∙ standing_stands c.args.row.trades (places_at c.args.trades.now c.args.account) c.requires.places
+    ap trades_stand c.standing_rows.ensures ∙ standing_stands c.args.row.trades (places_at c.args.trades.now c.args.account) c.requires.places

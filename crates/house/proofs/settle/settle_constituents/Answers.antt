@@ -14,8 +14,8 @@ loop-i-init g c =
     let n = c.args.house.now.accounts in
     (c.requires, omega arith, sym (books_whole (books_of rs ts) (omega (arith, length_books rs ts, (kept n rs ts c.requires).rows, c.args.house.now.some))))
 
-pub settle-account-requires : goal.settle-account-requires
-settle-account-requires g c =
+pub settle_account-requires : goal.settle_account-requires
+settle_account-requires g c =
     let n = c.args.house.now.accounts in
     let rs = c.loop-i.records in
     let ts = c.args.trades.now in
@@ -44,8 +44,8 @@ loop-i-preserved g c =
     let r = get_or rs i no_row in
     let ps = places_at ts i in
     let f : Book → Book = settled m k 0 in
-    let q = c.settle-account.result in
-    let e = c.settle-account.ensures in
+    let q = c.settle_account.result in
+    let e = c.settle_account.ensures in
     let value : q ≡ settled_row m k 0 r (take r.trades ps) = e.value ∙ ap (λ (x : ℕ). settled_row m k x r (take r.trades ps)) c.none.ensures in
     let er = ap (set rs i) value in
     let et = sym (put_same ts i) in

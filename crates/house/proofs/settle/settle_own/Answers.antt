@@ -5,9 +5,9 @@ use Rattle.house.proofs.settle.settle_own.Goals as goal
 
 pub returns : goal.returns
 returns g c =
-    let e = c.settle-account-own.ensures in
+    let e = c.settle_account-own.ensures in
     record {
       value = ap (λ r. with_second r false) e.value;
       keeps = e.keeps;
-      figures = figured_from 96000000000000000 (with_second c.settle-account-own.result false) (omega (arith, e.obligation, c.args.cover.most)) e.available (omega (arith, e.shortfall, c.args.cover.most));
+      figures = figured_from 96000000000000000 (with_second c.settle_account-own.result false) (omega (arith, e.obligation, c.args.cover.most)) e.available (omega (arith, e.shortfall, c.args.cover.most));
     }

@@ -12,21 +12,21 @@ pub loop-i-init : goal.loop-i-init
 unfolding sum_below
 loop-i-init c = (refl, omega arith)
 
-pub row-value-sum-requires : goal.row-value-sum-requires
-row-value-sum-requires c =
+pub row_value-sum-requires : goal.row_value-sum-requires
+row_value-sum-requires c =
     All-get_or (λ (s : SecurityRow). security_keeps s ≡ true) c.args.securities.now c.loop-i.i no_security (omega (arith, c.requires.securities.0)) c.requires.securities.1
 
 pub loop-i-preserved : goal.loop-i-preserved
 loop-i-preserved c =
     let few = All-get_or (λ n. n ≤ 1000000) c.args.lots.now c.loop-i.i 0 (omega (arith, c.requires.lots.0)) c.requires.lots.1 in (
-      sum_next (λ i. lots_value (get_or c.args.lots.now i 0) (get_or c.args.securities.now i no_security)) c.loop-i.sum c.loop-i.i c.row-value-sum.result c.loop-i.invariant.0 c.row-value-sum.ensures.value,
-      omega (arith, c.row-value-sum.ensures.bound, c.loop-i.invariant.1),
+      sum_next (λ i. lots_value (get_or c.args.lots.now i 0) (get_or c.args.securities.now i no_security)) c.loop-i.sum c.loop-i.i c.row_value-sum.result c.loop-i.invariant.0 c.row_value-sum.ensures.value,
+      omega (arith, c.row_value-sum.ensures.bound, c.loop-i.invariant.1),
     )
 
 pub overflow-add-sum : goal.overflow-add-sum
 overflow-add-sum c =
     let few = All-get_or (λ n. n ≤ 1000000) c.args.lots.now c.loop-i.i 0 (omega (arith, c.requires.lots.0)) c.requires.lots.1 in
-    record { fits = omega (arith, c.row-value-sum.ensures.bound, c.loop-i.invariant.1) }
+    record { fits = omega (arith, c.row_value-sum.ensures.bound, c.loop-i.invariant.1) }
 
 pub returns : goal.returns
 unfolding securities_of

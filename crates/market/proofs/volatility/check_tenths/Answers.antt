@@ -10,10 +10,10 @@ returns-in-Some c =
     let h = c.in-Some.ensures in
     record {
       value =
-          c.volatility-tenths.ensures.value
+          c.volatility_tenths.ensures.value
           ∙ highest_tenths c.args.thresholds.now.triggers c.args.returns c.in-Some.ratio h.1
           ∙ sym (cond-false _ _ _ (le-ltb _ 2 h.0));
-      bound = c.volatility-tenths.ensures.bound;
+      bound = c.volatility_tenths.ensures.bound;
     }
 
 pub returns-in-None : goal.returns-in-None

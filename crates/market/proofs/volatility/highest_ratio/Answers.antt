@@ -13,4 +13,4 @@ returns c =
     (c.new-3.ensures.num, c.new-3.ensures.den)
     (c.new-4.ensures.num, c.new-4.ensures.den)
     (c.new-5.ensures.num, c.new-5.ensures.den))
-    c.kth-highest.result refl (omega (arith, c.count-exceeding.ensures)) c.kth-highest.ensures.kth
+    c.kth_highest.result refl (omega (arith, c.count_exceeding.ensures)) c.kth_highest.ensures.kth

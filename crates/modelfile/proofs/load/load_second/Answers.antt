@@ -5,4 +5,4 @@ use Rattle.modelfile.proofs.load.load_second.Goals as goal
 
 pub returns-in-Err-join : goal.returns-in-Err-join
 returns-in-Err-join c =
-    inr (single_of c.in-Ok.second, (c.load-single.new.scan.rest.now, (c.in-Ok.ensures, not_joined (single_of c.args.first) (single_of c.in-Ok.second) c.load-single.new.scan.rest.now c.in-Err-join.refusal c.in-Err-join.ensures)))
+    inr (single_of c.in-Ok.second, (c.load_single.new.scan.rest.now, (c.in-Ok.ensures, not_joined (single_of c.args.first) (single_of c.in-Ok.second) c.load_single.new.scan.rest.now c.in-Err-join.refusal c.in-Err-join.ensures)))

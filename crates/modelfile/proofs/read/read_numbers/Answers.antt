@@ -6,26 +6,26 @@ use Rattle.modelfile.proofs.read.read_numbers.Goals as goal
 pub returns-in-default : goal.returns-in-default
 returns-in-default c = nameless c.args.scan.now.rest.now (sym (c.in-default.ensures ∙ ap kind_of c.word.ensures.value))
 
-pub returns-in-default-next-count : goal.returns-in-default-next-count
-returns-in-default-next-count c =
+pub returns-in-default-next_count : goal.returns-in-default-next_count
+returns-in-default-next_count c =
     named_is c.args.scan.now.rest.now c.word.new.self.rest.now c.in-Some.kind (sym (c.in-Some.ensures ∙ ap kind_of c.word.ensures.value)) c.word.ensures.after
-    ∙ no_sets c.in-Some.kind c.word.new.self.rest.now (sym c.in-default-next-count.ensures.value)
+    ∙ no_sets c.in-Some.kind c.word.new.self.rest.now (sym c.in-default-next_count.ensures.value)
 
-pub returns-in-default-next-count-2 : goal.returns-in-default-next-count-2
-returns-in-default-next-count-2 c =
+pub returns-in-default-next_count-2 : goal.returns-in-default-next_count-2
+returns-in-default-next_count-2 c =
     named_is c.args.scan.now.rest.now c.word.new.self.rest.now c.in-Some.kind (sym (c.in-Some.ensures ∙ ap kind_of c.word.ensures.value)) c.word.ensures.after
-    ∙ no_scenarios c.in-Some.kind c.word.new.self.rest.now c.next-count.new.scan.rest.now c.in-Some-next-count.sets (sym c.in-Some-next-count.ensures.value) c.in-Some-next-count.ensures.after (sym c.in-default-next-count-2.ensures.value)
+    ∙ no_scenarios c.in-Some.kind c.word.new.self.rest.now c.next_count.new.scan.rest.now c.in-Some-next_count.sets (sym c.in-Some-next_count.ensures.value) c.in-Some-next_count.ensures.after (sym c.in-default-next_count-2.ensures.value)
 
-pub returns-then-not-counts-fit : goal.returns-then-not-counts-fit
-returns-then-not-counts-fit c =
+pub returns-then-not-counts_fit : goal.returns-then-not-counts_fit
+returns-then-not-counts_fit c =
     let e = named_is c.args.scan.now.rest.now c.word.new.self.rest.now c.in-Some.kind (sym (c.in-Some.ensures ∙ ap kind_of c.word.ensures.value)) c.word.ensures.after in
-    let f = with_counts c.in-Some.kind c.word.new.self.rest.now c.next-count.new.scan.rest.now c.next-count-2.new.scan.rest.now c.in-Some-next-count.sets c.in-Some-next-count-2.scenarios (sym c.in-Some-next-count.ensures.value) c.in-Some-next-count.ensures.after (sym c.in-Some-next-count-2.ensures.value) c.in-Some-next-count-2.ensures.after in
-    e ∙ (f ∙ counts_wrong c.in-Some.kind c.in-Some-next-count.sets c.in-Some-next-count-2.scenarios c.next-count-2.new.scan.rest.now (fits_are c.in-Some-next-count.sets c.in-Some-next-count-2.scenarios c.counts_fit.result c.counts_fit.ensures ∙ c.if-not-counts-fit.true))
+    let f = with_counts c.in-Some.kind c.word.new.self.rest.now c.next_count.new.scan.rest.now c.next_count-2.new.scan.rest.now c.in-Some-next_count.sets c.in-Some-next_count-2.scenarios (sym c.in-Some-next_count.ensures.value) c.in-Some-next_count.ensures.after (sym c.in-Some-next_count-2.ensures.value) c.in-Some-next_count-2.ensures.after in
+    e ∙ (f ∙ counts_wrong c.in-Some.kind c.in-Some-next_count.sets c.in-Some-next_count-2.scenarios c.next_count-2.new.scan.rest.now (fits_are c.in-Some-next_count.sets c.in-Some-next_count-2.scenarios c.counts_fit.result c.counts_fit.ensures ∙ c.if-not-counts_fit.true))
 
 pub returns : goal.returns
 returns c =
     let e = named_is c.args.scan.now.rest.now c.word.new.self.rest.now c.in-Some.kind (sym (c.in-Some.ensures ∙ ap kind_of c.word.ensures.value)) c.word.ensures.after in
-    let f = with_counts c.in-Some.kind c.word.new.self.rest.now c.next-count.new.scan.rest.now c.next-count-2.new.scan.rest.now c.in-Some-next-count.sets c.in-Some-next-count-2.scenarios (sym c.in-Some-next-count.ensures.value) c.in-Some-next-count.ensures.after (sym c.in-Some-next-count-2.ensures.value) c.in-Some-next-count-2.ensures.after in
-    let g = counts_good c.in-Some.kind c.in-Some-next-count.sets c.in-Some-next-count-2.scenarios c.next-count-2.new.scan.rest.now (fits_are c.in-Some-next-count.sets c.in-Some-next-count-2.scenarios c.counts_fit.result c.counts_fit.ensures ∙ c.if-not-counts-fit.false) in
-    let h = sizes_same c.in-Some.kind c.in-Some-next-count.sets c.in-Some-next-count-2.scenarios _ _ c.sizes-size.result.0 c.sizes-size.result.1 c.next-count-2.new.scan.rest.now c.sizes-size.ensures.0 c.sizes-size.ensures.1 in
-    read_same _ _ c.read-tables.result c.read-tables.new.scan.rest.now (e ∙ (f ∙ (g ∙ h))) c.read-tables.ensures
+    let f = with_counts c.in-Some.kind c.word.new.self.rest.now c.next_count.new.scan.rest.now c.next_count-2.new.scan.rest.now c.in-Some-next_count.sets c.in-Some-next_count-2.scenarios (sym c.in-Some-next_count.ensures.value) c.in-Some-next_count.ensures.after (sym c.in-Some-next_count-2.ensures.value) c.in-Some-next_count-2.ensures.after in
+    let g = counts_good c.in-Some.kind c.in-Some-next_count.sets c.in-Some-next_count-2.scenarios c.next_count-2.new.scan.rest.now (fits_are c.in-Some-next_count.sets c.in-Some-next_count-2.scenarios c.counts_fit.result c.counts_fit.ensures ∙ c.if-not-counts_fit.false) in
+    let h = sizes_same c.in-Some.kind c.in-Some-next_count.sets c.in-Some-next_count-2.scenarios _ _ c.sizes-size.result.0 c.sizes-size.result.1 c.next_count-2.new.scan.rest.now c.sizes-size.ensures.0 c.sizes-size.ensures.1 in
+    read_same _ _ c.read_tables.result c.read_tables.new.scan.rest.now (e ∙ (f ∙ (g ∙ h))) c.read_tables.ensures

@@ -4,4 +4,4 @@ use Rattle.opening.proofs.Opened.{market_opens}
 use Rattle.opening.proofs.opening.market_at_opening.Goals as goal
 
 pub new-requires : goal.new-requires
-new-requires c = ap market_keeps c.state-at-opening.ensures ∙ market_opens c.args.month c.requires
+new-requires c = ap market_keeps c.state_at_opening.ensures ∙ market_opens c.args.month c.requires

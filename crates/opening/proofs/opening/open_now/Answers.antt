@@ -12,12 +12,12 @@ invariant-of-house c =
 pub returns : goal.returns
 returns c =
     let a = allowed c.args.accounts c.args.month c.args.records.now c.args.trades.now c.requires in
-    let rows = c.clear-rows.ensures ∙ ap (λ (n : ℕ). replicate n empty_row) a.rows in
-    let trades = c.clear-trades.ensures ∙ ap (λ (n : ℕ). replicate n no_trade) a.places in
+    let rows = c.clear_rows.ensures ∙ ap (λ (n : ℕ). replicate n empty_row) a.rows in
+    let trades = c.clear_trades.ensures ∙ ap (λ (n : ℕ). replicate n no_trade) a.places in
     record {
       number = refl;
       accounts = refl;
-      market = c.market-at-opening.ensures;
+      market = c.market_at_opening.ensures;
       rows = rows;
       trades = trades;
       keeps = ap₂ (tables_keep c.args.accounts) rows trades ∙ opened_keeps c.args.accounts a.some;

@@ -9,4 +9,4 @@ pub returns : goal.returns
 unfolding opened_market
 returns c =
     let made : FamilyState → FamilyState → MarketState = λ f g. record { day = record { month = c.args.month; set = 0 }; percent = 0; overnight = f; forward = g; securities = replicate 32 no_security } in
-    ap₂ made c.family-at-opening.ensures c.family-at-opening-2.ensures
+    ap₂ made c.family_at_opening.ensures c.family_at_opening-2.ensures

@@ -29,6 +29,6 @@ loop-trade-preserved c =
 pub returns : goal.returns
 unfolding minimum_of
 returns c = record {
-  value = c.unsigned-abs.ensures.value ∙ ap nat_abs (c.loop-trade.invariant.1 ∙ ap (signed_sum (weight_of c.args.day)) (take_all _ _ c.loop-trade-test.false));
-  bound = omega (arith, c.unsigned-abs.ensures.value, c.loop-trade.invariant.2);
+  value = c.unsigned_abs.ensures.value ∙ ap nat_abs (c.loop-trade.invariant.1 ∙ ap (signed_sum (weight_of c.args.day)) (take_all _ _ c.loop-trade-test.false));
+  bound = omega (arith, c.unsigned_abs.ensures.value, c.loop-trade.invariant.2);
 }

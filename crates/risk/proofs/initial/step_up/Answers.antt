@@ -4,6 +4,6 @@ use Rattle.risk.proofs.initial.step_up.Goals as goal
 
 pub returns : goal.returns
 returns c = record {
-  value = omega (arith, c.div-ceil.ensures);
-  bound = omega (arith, c.div-ceil.ensures, mul-le c.args.base c.args.percent c.args.base 100 (omega arith) c.requires.0);
+  value = omega (arith, c.div_ceil.ensures);
+  bound = omega (arith, c.div_ceil.ensures, mul-le c.args.base c.args.percent c.args.base 100 (omega arith) c.requires.0);
 }

@@ -14,7 +14,7 @@ loop-key-init g c = refl
 pub loop-key-preserved : goal.loop-key-preserved
 loop-key-preserved g c =
     sum_next (λ k. var_of (g.M.MarginModel.meaning c.args.model.now) c.args.day (group_trades c.args.grouping c.args.day k c.args.trades.now))
-    c.loop-key.sum c.loop-key.key c.group-risk-sum.result c.loop-key.invariant c.group-risk-sum.ensures
+    c.loop-key.sum c.loop-key.key c.group_risk-sum.result c.loop-key.invariant c.group_risk-sum.ensures
 
 pub overflow-add-sum : goal.overflow-add-sum
 overflow-add-sum g c =

@@ -7,13 +7,13 @@ pub overflow-sub-result : goal.overflow-sub-result
 overflow-sub-result g c =
     let m = g.M.MarginModel.meaning c.args.model.now in
     let law = g.M.MarginModel.lawful c.args.model.now in
-    omega (arith, (tail_all m c.args.day c.args.group.now c.fill-losses.new.room c.keep-all-filled.new.places c.keep-all-filled.result c.fill-losses.ensures (omega (arith, c.requires.places)) law.some_scenario c.keep-all-filled.ensures).0)
+    omega (arith, (tail_all m c.args.day c.args.group.now c.fill_losses.new.room c.keep_all-filled.new.places c.keep_all-filled.result c.fill_losses.ensures (omega (arith, c.requires.places)) law.some_scenario c.keep_all-filled.ensures).0)
 
 pub returns : goal.returns
 returns g c =
     let m = g.M.MarginModel.meaning c.args.model.now in
     let law = g.M.MarginModel.lawful c.args.model.now in
-    let last = get_or c.keep-all-filled.new.places (c.keep-all-filled.result - 1) (pos 0) in
+    let last = get_or c.keep_all-filled.new.places (c.keep_all-filled.result - 1) (pos 0) in
     let fits : SFits w64 last = search rules in
     to_z-of_z w64 last fits
-    ∙ (tail_all m c.args.day c.args.group.now c.fill-losses.new.room c.keep-all-filled.new.places c.keep-all-filled.result c.fill-losses.ensures (omega (arith, c.requires.places)) law.some_scenario c.keep-all-filled.ensures).1
+    ∙ (tail_all m c.args.day c.args.group.now c.fill_losses.new.room c.keep_all-filled.new.places c.keep_all-filled.result c.fill_losses.ensures (omega (arith, c.requires.places)) law.some_scenario c.keep_all-filled.ensures).1

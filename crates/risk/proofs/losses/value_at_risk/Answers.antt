@@ -6,8 +6,8 @@ use Rattle.risk.specs.Losses.{var_of, AtRisk}
 use Rattle.risk.proofs.Risks.{var_most, var_none, var_from, at_risk}
 use Rattle.risk.proofs.losses.value_at_risk.Goals as goal
 
-pub returns-then-is-empty : goal.returns-then-is-empty
-returns-then-is-empty g c =
+pub returns-then-is_empty : goal.returns-then-is_empty
+returns-then-is_empty g c =
     let m = g.M.MarginModel.meaning c.args.model.now in
     let law = g.M.MarginModel.lawful c.args.model.now in
     let none : c.args.group.now ≡ [] = nil_from_length _ (search rules) in
@@ -22,16 +22,16 @@ pub returns : goal.returns
 returns g c =
     let m = g.M.MarginModel.meaning c.args.model.now in
     let law = g.M.MarginModel.lawful c.args.model.now in
-    let fits : SFits w64 c.lowest-of-tail.result = record { sfits = c.lowest-of-tail.type-inv } in
-    let is = var_from m c.args.day c.args.group.now c.lowest-of-tail.result (to_z w64 (of_z w64 c.lowest-of-tail.result)) c.gain.result (to_z-of_z w64 c.lowest-of-tail.result fits) c.lowest-of-tail.ensures c.gain.ensures in
+    let fits : SFits w64 c.lowest_of_tail.result = record { sfits = c.lowest_of_tail.type-inv } in
+    let is = var_from m c.args.day c.args.group.now c.lowest_of_tail.result (to_z w64 (of_z w64 c.lowest_of_tail.result)) c.gain.result (to_z-of_z w64 c.lowest_of_tail.result fits) c.lowest_of_tail.ensures c.gain.ensures in
     record {
       value = is;
       words = subst (AtRisk m c.args.day c.args.group.now) (sym is) (at_risk m c.args.day c.args.group.now law);
       bound = omega (arith, is, var_most m c.args.day c.args.group.now law c.requires.each);
     }
 
-pub lowest-of-tail-requires : goal.lowest-of-tail-requires
-lowest-of-tail-requires g c =
+pub lowest_of_tail-requires : goal.lowest_of_tail-requires
+lowest_of_tail-requires g c =
     let law = g.M.MarginModel.lawful c.args.model.now in
     let few = law.few_scenarios in
     record {

@@ -2,9 +2,9 @@ use Rattle.std.proofs.Common.{rules}
 use Rattle.script.specs.Fields.{number_field}
 use Rattle.script.proofs.fields.number_field.Goals as goal
 
-pub returns-then-is-empty : goal.returns-then-is-empty
+pub returns-then-is_empty : goal.returns-then-is_empty
 unfolding number_field
-returns-then-is-empty c = search rules
+returns-then-is_empty c = search rules
 
 pub returns-then-n-lt0 : goal.returns-then-n-lt0
 unfolding number_field

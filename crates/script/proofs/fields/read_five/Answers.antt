@@ -4,20 +4,20 @@ use Rattle.script.proofs.fields.read_five.Goals as goal
 
 pub returns-in-err-a : goal.returns-in-err-a
 returns-in-err-a c =
-    let e : c.from-residual.result ≡ Err c.in-err-a.field-0.0 = is_err _ _ c.from-residual.ensures.1 in
+    let e : c.from_residual.result ≡ Err c.in-err-a.field-0.0 = is_err _ _ c.from_residual.ensures.1 in
     simp e
     (fails _ _ _ _ c.in-err-a.ensures.value)
 
 pub returns-in-err-b : goal.returns-in-err-b
 returns-in-err-b c =
-    let e : c.from-residual-in-err-b.result ≡ Err c.in-err-b.field-0.0 = is_err _ _ c.from-residual-in-err-b.ensures.1 in
+    let e : c.from_residual-in-err-b.result ≡ Err c.in-err-b.field-0.0 = is_err _ _ c.from_residual-in-err-b.ensures.1 in
     simp e
     (later _ _ _ _ _ _ c.in-ok-a.ensures.value c.in-ok-a.ensures.after
     (fails _ _ _ _ c.in-err-b.ensures.value))
 
 pub returns-in-err-c : goal.returns-in-err-c
 returns-in-err-c c =
-    let e : c.from-residual-in-err-c.result ≡ Err c.in-err-c.field-0.0 = is_err _ _ c.from-residual-in-err-c.ensures.1 in
+    let e : c.from_residual-in-err-c.result ≡ Err c.in-err-c.field-0.0 = is_err _ _ c.from_residual-in-err-c.ensures.1 in
     simp e
     (later _ _ _ _ _ _ c.in-ok-a.ensures.value c.in-ok-a.ensures.after
     (later _ _ _ _ _ _ c.in-ok-b.ensures.value c.in-ok-b.ensures.after
@@ -25,7 +25,7 @@ returns-in-err-c c =
 
 pub returns-in-err-d : goal.returns-in-err-d
 returns-in-err-d c =
-    let e : c.from-residual-in-err-d.result ≡ Err c.in-err-d.field-0.0 = is_err _ _ c.from-residual-in-err-d.ensures.1 in
+    let e : c.from_residual-in-err-d.result ≡ Err c.in-err-d.field-0.0 = is_err _ _ c.from_residual-in-err-d.ensures.1 in
     simp e
     (later _ _ _ _ _ _ c.in-ok-a.ensures.value c.in-ok-a.ensures.after
     (later _ _ _ _ _ _ c.in-ok-b.ensures.value c.in-ok-b.ensures.after
@@ -34,7 +34,7 @@ returns-in-err-d c =
 
 pub returns-in-err-e : goal.returns-in-err-e
 returns-in-err-e c =
-    let e : c.from-residual-in-err-e.result ≡ Err c.in-err-e.field-0.0 = is_err _ _ c.from-residual-in-err-e.ensures.1 in
+    let e : c.from_residual-in-err-e.result ≡ Err c.in-err-e.field-0.0 = is_err _ _ c.from_residual-in-err-e.ensures.1 in
     simp e
     (later _ _ _ _ _ _ c.in-ok-a.ensures.value c.in-ok-a.ensures.after
     (later _ _ _ _ _ _ c.in-ok-b.ensures.value c.in-ok-b.ensures.after

@@ -2,10 +2,10 @@ use Rattle.std.proofs.Common.{rules}
 use Rattle.script.specs.Fields.{name_field}
 use Rattle.script.proofs.fields.read_name.Goals as goal
 
-pub returns-then-is-empty : goal.returns-then-is-empty
+pub returns-then-is_empty : goal.returns-then-is_empty
 unfolding name_field
-returns-then-is-empty c = search rules
+returns-then-is_empty c = search rules
 
-pub returns-else-is-empty : goal.returns-else-is-empty
+pub returns-else-is_empty : goal.returns-else-is_empty
 unfolding name_field
-returns-else-is-empty c = search rules
+returns-else-is_empty c = search rules

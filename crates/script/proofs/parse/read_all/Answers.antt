@@ -10,10 +10,10 @@ pub returns-in-err-found : goal.returns-in-err-found
 unfolding whole_of
 returns-in-err-found c = search rules
 
-pub returns-then-is-empty : goal.returns-then-is-empty
+pub returns-then-is_empty : goal.returns-then-is_empty
 unfolding whole_of
-returns-then-is-empty c = search rules
+returns-then-is_empty c = search rules
 
-pub returns-else-is-empty : goal.returns-else-is-empty
+pub returns-else-is_empty : goal.returns-else-is_empty
 unfolding whole_of
-returns-else-is-empty c = search rules
+returns-else-is_empty c = search rules

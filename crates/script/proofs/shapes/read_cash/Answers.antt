@@ -4,13 +4,13 @@ use Rattle.script.proofs.shapes.read_cash.Goals as goal
 
 pub returns-in-err-account : goal.returns-in-err-account
 returns-in-err-account c =
-    let e : c.from-residual.result ≡ Err c.in-err-account.field-0.0 = is_err _ _ c.from-residual.ensures.1 in
+    let e : c.from_residual.result ≡ Err c.in-err-account.field-0.0 = is_err _ _ c.from_residual.ensures.1 in
     simp e
     (fails _ _ _ _ c.in-err-account.ensures.value)
 
 pub returns-in-err-amount : goal.returns-in-err-amount
 returns-in-err-amount c =
-    let e : c.from-residual-in-err-amount.result ≡ Err c.in-err-amount.field-0.0 = is_err _ _ c.from-residual-in-err-amount.ensures.1 in
+    let e : c.from_residual-in-err-amount.result ≡ Err c.in-err-amount.field-0.0 = is_err _ _ c.from_residual-in-err-amount.ensures.1 in
     simp e
     (later _ _ _ _ _ _ c.in-ok-account.ensures.value c.in-ok-account.ensures.after
     (fails _ _ _ _ c.in-err-amount.ensures.value))

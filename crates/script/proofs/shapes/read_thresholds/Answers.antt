@@ -4,20 +4,20 @@ use Rattle.script.proofs.shapes.read_thresholds.Goals as goal
 
 pub returns-in-err-family : goal.returns-in-err-family
 returns-in-err-family c =
-    let e : c.from-residual.result ≡ Err c.in-err-family.field-0.0 = is_err _ _ c.from-residual.ensures.1 in
+    let e : c.from_residual.result ≡ Err c.in-err-family.field-0.0 = is_err _ _ c.from_residual.ensures.1 in
     simp e
     (fails _ _ _ _ c.in-err-family.ensures.value)
 
 pub returns-in-err-triggers : goal.returns-in-err-triggers
 returns-in-err-triggers c =
-    let e : c.from-residual-in-err-triggers.result ≡ Err c.in-err-triggers.field-0.0 = is_err _ _ c.from-residual-in-err-triggers.ensures.1 in
+    let e : c.from_residual-in-err-triggers.result ≡ Err c.in-err-triggers.field-0.0 = is_err _ _ c.from_residual-in-err-triggers.ensures.1 in
     simp e
     (later _ _ _ _ _ _ c.in-ok-family.ensures.value c.in-ok-family.ensures.after
     (first_fails _ _ _ _ c.in-err-triggers.ensures))
 
 pub returns-in-err-calm : goal.returns-in-err-calm
 returns-in-err-calm c =
-    let e : c.from-residual-in-err-calm.result ≡ Err c.in-err-calm.field-0.0 = is_err _ _ c.from-residual-in-err-calm.ensures.1 in
+    let e : c.from_residual-in-err-calm.result ≡ Err c.in-err-calm.field-0.0 = is_err _ _ c.from_residual-in-err-calm.ensures.1 in
     simp e
     (later _ _ _ _ _ _ c.in-ok-family.ensures.value c.in-ok-family.ensures.after
     (second_fails _ _ _ _ _ _ c.in-ok-triggers.ensures c.in-err-calm.ensures))

@@ -4,20 +4,20 @@ use Rattle.script.proofs.shapes.read_trade.Goals as goal
 
 pub returns-in-err-number : goal.returns-in-err-number
 returns-in-err-number c =
-    let e : c.from-residual.result ≡ Err c.in-err-number.field-0.0 = is_err _ _ c.from-residual.ensures.1 in
+    let e : c.from_residual.result ≡ Err c.in-err-number.field-0.0 = is_err _ _ c.from_residual.ensures.1 in
     simp e
     (fails _ _ _ _ c.in-err-number.ensures.value)
 
 pub returns-in-err-benchmark : goal.returns-in-err-benchmark
 returns-in-err-benchmark c =
-    let e : c.from-residual-in-err-benchmark.result ≡ Err c.in-err-benchmark.field-0.0 = is_err _ _ c.from-residual-in-err-benchmark.ensures.1 in
+    let e : c.from_residual-in-err-benchmark.result ≡ Err c.in-err-benchmark.field-0.0 = is_err _ _ c.from_residual-in-err-benchmark.ensures.1 in
     simp e
     (later _ _ _ _ _ _ c.in-ok-number.ensures.value c.in-ok-number.ensures.after
     (fails _ _ _ _ c.in-err-benchmark.ensures.value))
 
 pub returns-in-err-side : goal.returns-in-err-side
 returns-in-err-side c =
-    let e : c.from-residual-in-err-side.result ≡ Err c.in-err-side.field-0.0 = is_err _ _ c.from-residual-in-err-side.ensures.1 in
+    let e : c.from_residual-in-err-side.result ≡ Err c.in-err-side.field-0.0 = is_err _ _ c.from_residual-in-err-side.ensures.1 in
     simp e
     (later _ _ _ _ _ _ c.in-ok-number.ensures.value c.in-ok-number.ensures.after
     (later _ _ _ _ _ _ c.in-ok-benchmark.ensures.value c.in-ok-benchmark.ensures.after
@@ -25,7 +25,7 @@ returns-in-err-side c =
 
 pub returns-in-err-maturity : goal.returns-in-err-maturity
 returns-in-err-maturity c =
-    let e : c.from-residual-in-err-maturity.result ≡ Err c.in-err-maturity.field-0.0 = is_err _ _ c.from-residual-in-err-maturity.ensures.1 in
+    let e : c.from_residual-in-err-maturity.result ≡ Err c.in-err-maturity.field-0.0 = is_err _ _ c.from_residual-in-err-maturity.ensures.1 in
     simp e
     (later _ _ _ _ _ _ c.in-ok-number.ensures.value c.in-ok-number.ensures.after
     (later _ _ _ _ _ _ c.in-ok-benchmark.ensures.value c.in-ok-benchmark.ensures.after
@@ -34,7 +34,7 @@ returns-in-err-maturity c =
 
 pub returns-in-err-notional : goal.returns-in-err-notional
 returns-in-err-notional c =
-    let e : c.from-residual-in-err-notional.result ≡ Err c.in-err-notional.field-0.0 = is_err _ _ c.from-residual-in-err-notional.ensures.1 in
+    let e : c.from_residual-in-err-notional.result ≡ Err c.in-err-notional.field-0.0 = is_err _ _ c.from_residual-in-err-notional.ensures.1 in
     simp e
     (later _ _ _ _ _ _ c.in-ok-number.ensures.value c.in-ok-number.ensures.after
     (later _ _ _ _ _ _ c.in-ok-benchmark.ensures.value c.in-ok-benchmark.ensures.after
@@ -44,7 +44,7 @@ returns-in-err-notional c =
 
 pub returns-in-err-rate : goal.returns-in-err-rate
 returns-in-err-rate c =
-    let e : c.from-residual-in-err-rate.result ≡ Err c.in-err-rate.field-0.0 = is_err _ _ c.from-residual-in-err-rate.ensures.1 in
+    let e : c.from_residual-in-err-rate.result ≡ Err c.in-err-rate.field-0.0 = is_err _ _ c.from_residual-in-err-rate.ensures.1 in
     simp e
     (later _ _ _ _ _ _ c.in-ok-number.ensures.value c.in-ok-number.ensures.after
     (later _ _ _ _ _ _ c.in-ok-benchmark.ensures.value c.in-ok-benchmark.ensures.after

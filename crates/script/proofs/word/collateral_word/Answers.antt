@@ -22,8 +22,8 @@ returns-then-same-4 c = search rules
 pub returns-else-same-4 : goal.returns-else-same-4
 unfolding collateral_word
 returns-else-same-4 c =
-    skip _ _ _ _ (not_it _ _ _ _ c.same.ensures.value c.as-bytes.ensures.value c.if-same.false)
-    (skip _ _ _ _ (not_it _ _ _ _ c.same-else-same.ensures.value c.as-bytes-else-same.ensures.value c.if-same-2.false)
-    (skip _ _ _ _ (not_it _ _ _ _ c.same-else-same-2.ensures.value c.as-bytes-else-same-2.ensures.value c.if-same-3.false)
-    (skip _ _ _ _ (not_it _ _ _ _ c.same-else-same-3.ensures.value c.as-bytes-else-same-3.ensures.value c.if-same-4.false)
+    skip _ _ _ _ (not_it _ _ _ _ c.same.ensures.value c.as_bytes.ensures.value c.if-same.false)
+    (skip _ _ _ _ (not_it _ _ _ _ c.same-else-same.ensures.value c.as_bytes-else-same.ensures.value c.if-same-2.false)
+    (skip _ _ _ _ (not_it _ _ _ _ c.same-else-same-2.ensures.value c.as_bytes-else-same-2.ensures.value c.if-same-3.false)
+    (skip _ _ _ _ (not_it _ _ _ _ c.same-else-same-3.ensures.value c.as_bytes-else-same-3.ensures.value c.if-same-4.false)
     (refl))))

@@ -6,13 +6,13 @@ pub returns-in-Some : goal.returns-in-Some
 unfolding word_named
 returns-in-Some c = search rules
 
-pub returns-in-Some-collateral-word : goal.returns-in-Some-collateral-word
+pub returns-in-Some-collateral_word : goal.returns-in-Some-collateral_word
 unfolding word_named
-returns-in-Some-collateral-word c = search rules
+returns-in-Some-collateral_word c = search rules
 
-pub returns-in-Some-market-word : goal.returns-in-Some-market-word
+pub returns-in-Some-market_word : goal.returns-in-Some-market_word
 unfolding word_named
-returns-in-Some-market-word c = search rules
+returns-in-Some-market_word c = search rules
 
 pub returns : goal.returns
 unfolding word_named

@@ -8,8 +8,8 @@ returns g c = record {
   holds = λ xs h. holds_push g.T.Ranked.reaches xs c.args.places.now c.put.new.places c.args.filled c.put.result c.args.item (omega arith) c.put.ensures.count c.put.ensures.top h;
 }
 
-pub returns-then-at-least : goal.returns-then-at-least
-returns-then-at-least g c = record {
+pub returns-then-at_least : goal.returns-then-at_least
+returns-then-at_least g c = record {
   within = omega arith;
-  holds = λ xs h. holds_stays g.met.T.Ranked.orders xs c.args.places.now c.args.filled c.index-places-filled.result c.args.item (omega arith) (omega arith) c.index-places-filled.is c.if-at-least.ensures h;
+  holds = λ xs h. holds_stays g.met.T.Ranked.orders xs c.args.places.now c.args.filled c.index-places-filled.result c.args.item (omega arith) (omega arith) c.index-places-filled.is c.if-at_least.ensures h;
 }

@@ -1,7 +1,7 @@
 use Rattle.std.proofs.Common.{◌≡◌, length, sym, ◌∙◌, arith}
 use Rattle.tail.proofs.Places.{turn_carries, turn_starts, turn_stays, end, ends_inside, ends_full}
 use Rattle.tail.proofs.keeper.put.Goals as goal
-use Rattle.tail.proofs.keeper.put.Goals.{then-moved, then-moved-via-then-moved, then-moved-via-else-moved+then-not-at-least, else-moved+else-not-at-least}
+use Rattle.tail.proofs.keeper.put.Goals.{then-moved, then-moved-via-then-moved, then-moved-via-else-moved+then-not-at_least, else-moved+else-not-at_least}
 
 pub loop-i-preserved : goal.loop-i-preserved
 loop-i-preserved g c =
@@ -15,14 +15,14 @@ loop-i-preserved g c =
             (elim w.then-moved.branch [
               | then-moved-via-then-moved v ↦
                   turn_carries ge ks c.loop-i.i c.args.filled c.loop-i.moved c.loop-i.carried c.index-places-i.result lt c.loop-i.invariant.0 c.index-places-i.is v.if-moved.true
-              | then-moved-via-else-moved+then-not-at-least v ↦
-                  turn_starts ge ks c.loop-i.i c.args.filled c.loop-i.moved c.loop-i.carried c.index-places-i.result lt c.loop-i.invariant.0 c.index-places-i.is v.if-moved.false v.if-not-at-least.ensures
+              | then-moved-via-else-moved+then-not-at_least v ↦
+                  turn_starts ge ks c.loop-i.i c.args.filled c.loop-i.moved c.loop-i.carried c.index-places-i.result lt c.loop-i.invariant.0 c.index-places-i.is v.if-moved.false v.if-not-at_least.ensures
             ] ∙ c.loop-i.invariant.1),
       )
-      | else-moved+else-not-at-least w ↦ (
+      | else-moved+else-not-at_least w ↦ (
         omega arith,
         simp (w.places-is, w.carried-is, w.moved-is)
-            (turn_stays ge ks c.loop-i.i c.args.filled c.loop-i.moved c.loop-i.carried c.index-places-i.result lt c.loop-i.invariant.0 c.index-places-i.is w.if-moved.false w.if-not-at-least.ensures ∙ c.loop-i.invariant.1),
+            (turn_stays ge ks c.loop-i.i c.args.filled c.loop-i.moved c.loop-i.carried c.index-places-i.result lt c.loop-i.invariant.0 c.index-places-i.is w.if-moved.false w.if-not-at_least.ensures ∙ c.loop-i.invariant.1),
       )
     ]
 

@@ -6,8 +6,8 @@ use Rattle.events.specs.declared.step.Step.TheVariants.{End, Fault, Record}
 use Rattle.events.proofs.Lefts.{left_end, left_fault, left_record}
 use Rattle.events.proofs.reader.Reader.next.Goals as goal
 
-pub returns-then-self-gt-MOST-BYTES : goal.returns-then-self-gt-MOST-BYTES
-returns-then-self-gt-MOST-BYTES c =
+pub returns-then-self-gt-MOST_BYTES : goal.returns-then-self-gt-MOST_BYTES
+returns-then-self-gt-MOST_BYTES c =
     let r = c.args.self.now in
     let le : r.count ≤ length r.bytes.now = omega arith in
     let s : Fault too_long ≡ step_at r.bytes.now r.place r.count = search rules in

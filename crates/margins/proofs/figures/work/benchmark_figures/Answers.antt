@@ -7,35 +7,35 @@ use Rattle.margins.specs.Marks.{marks_of, credit_of}
 use Rattle.margins.specs.Figures.{benchmark_of}
 use Rattle.margins.proofs.figures.work.benchmark_figures.Goals as goal
 
-pub mark-to-market-mark-requires : goal.mark-to-market-mark-requires
-mark-to-market-mark-requires g c = standing c.rows-rows.result.now c.rows-rows.ensures.stand
+pub mark_to_market-mark-requires : goal.mark_to_market-mark-requires
+mark_to_market-mark-requires g c = standing c.rows-rows.result.now c.rows-rows.ensures.stand
 
-pub gross-notional-requires : goal.gross-notional-requires
-gross-notional-requires g c = standing c.rows-rows.result.now c.rows-rows.ensures.stand
+pub gross_notional-requires : goal.gross_notional-requires
+gross_notional-requires g c = standing c.rows-rows.result.now c.rows-rows.ensures.stand
 
-pub margin-credit-requires : goal.margin-credit-requires
-margin-credit-requires g c =
+pub margin_credit-requires : goal.margin_credit-requires
+margin_credit-requires g c =
     let few = (standing c.rows-rows.result.now c.rows-rows.ensures.stand).few in
-    let back = to_z-of_z w64 c.mark-to-market-mark.result (record { sfits = c.mark-to-market-mark.type-inv }) in
-    simp back (omega (arith, c.mark-to-market-mark.ensures.bound))
+    let back = to_z-of_z w64 c.mark_to_market-mark.result (record { sfits = c.mark_to_market-mark.type-inv }) in
+    simp back (omega (arith, c.mark_to_market-mark.ensures.bound))
 
 pub returns : goal.returns
 unfolding benchmark_of
 returns g c =
-    let mark = c.mark-to-market-mark.result in
-    let back = to_z-of_z w64 mark (record { sfits = c.mark-to-market-mark.type-inv }) in
+    let mark = c.mark_to_market-mark.result in
+    let back = to_z-of_z w64 mark (record { sfits = c.mark_to_market-mark.type-inv }) in
     let rows = c.rows-rows.ensures.rows in
     let long = ap length rows in
     let lost-is = c.lost.ensures ∙ ap lost_of back in
-    let credit-is = c.margin-credit.ensures.value ∙ ap credit_of back in
-    let size = c.mark-to-market-mark.ensures.bound in
+    let credit-is = c.margin_credit.ensures.value ∙ ap credit_of back in
+    let size = c.mark_to_market-mark.ensures.bound in
     let back-size = ap nat_abs back in
     record {
       value = cc;
       bound = record {
-        initial = c.risk-figures.ensures.bound;
+        initial = c.risk_figures.ensures.bound;
         loss = omega (arith, lost_le mark, lost-is);
-        credit = omega (arith, c.margin-credit.ensures.bound);
-        gross = omega (arith, c.gross-notional.ensures.bound);
+        credit = omega (arith, c.margin_credit.ensures.bound);
+        gross = omega (arith, c.gross_notional.ensures.bound);
       };
     }

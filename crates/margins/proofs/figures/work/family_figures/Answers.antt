@@ -8,13 +8,13 @@ use Rattle.margins.specs.Figures.{family_of, part_of, many}
 use Rattle.margins.proofs.Bounds.{family_few}
 use Rattle.margins.proofs.figures.work.family_figures.Goals as goal
 
-pub join-benchmarks-requires : goal.join-benchmarks-requires
-join-benchmarks-requires g c =
+pub join_benchmarks-requires : goal.join_benchmarks-requires
+join_benchmarks-requires g c =
     let k = c.args.market.now.state in
     let all = (standing c.args.trades.trades.now c.args.trades.stand).few in
     let few = family_few k c.args.family c.args.trades.trades.now in
-    let p = simp c.first.ensures at c.part-figures-first.ensures.bound in
-    let q = simp c.second.ensures at c.part-figures-second.ensures.bound in
+    let p = simp c.first.ensures at c.part_figures-first.ensures.bound in
+    let q = simp c.second.ensures at c.part_figures-second.ensures.bound in
     record {
       volatility = subst (λ (s : FamilyState). s.volatility ≤ 1000) (sym c.family.ensures) ((orderly k c.args.market.now.keeps).family c.args.family).volatile;
       initial = omega (arith, p.initial, q.initial);
@@ -26,11 +26,11 @@ join-benchmarks-requires g c =
 pub returns : goal.returns
 unfolding family_of
 returns g c =
-    let p = simp c.first.ensures at c.part-figures-first.ensures.bound in
-    let q = simp c.second.ensures at c.part-figures-second.ensures.bound in
+    let p = simp c.first.ensures at c.part_figures-first.ensures.bound in
+    let q = simp c.second.ensures at c.part_figures-second.ensures.bound in
     record {
-      levels = c.join-benchmarks.ensures.levels;
+      levels = c.join_benchmarks.ensures.levels;
       value = cc;
-      obligation = omega (arith, c.join-benchmarks.ensures.bound, p.initial, q.initial, p.loss, q.loss);
-      credit = omega (arith, ap (λ (f : FamilyFigures). f.credit) c.join-benchmarks.ensures.value, p.credit, q.credit);
+      obligation = omega (arith, c.join_benchmarks.ensures.bound, p.initial, q.initial, p.loss, q.loss);
+      credit = omega (arith, ap (λ (f : FamilyFigures). f.credit) c.join_benchmarks.ensures.value, p.credit, q.credit);
     }

@@ -9,8 +9,8 @@ use Rattle.margins.specs.Figures.{figures_of}
 use Rattle.margins.proofs.Bounds.{families_few}
 use Rattle.margins.proofs.figures.work.figures.Goals as goal
 
-pub securities-value-securities-requires : goal.securities-value-securities-requires
-securities-value-securities-requires g c = record {
+pub securities_value-securities-requires : goal.securities_value-securities-requires
+securities_value-securities-requires g c = record {
   lots = (search rules, (held c.row-row.result c.row-row.ensures.keeps).lots);
   securities = (search rules, (orderly c.state.result.now c.state.ensures.keeps).priced);
 }
@@ -19,20 +19,20 @@ pub overflow-add-obligation : goal.overflow-add-obligation
 overflow-add-obligation g c =
     let few = families_few c.args.market.now.state c.args.trades.trades.now in
     let all = (standing c.args.trades.trades.now c.args.trades.stand).few in
-    record { fits = omega (arith, c.family-figures-overnight.ensures.obligation, c.family-figures-forward.ensures.obligation) }
+    record { fits = omega (arith, c.family_figures-overnight.ensures.obligation, c.family_figures-forward.ensures.obligation) }
 
 pub overflow-add-available : goal.overflow-add-available
 overflow-add-available g c =
     let few = families_few c.args.market.now.state c.args.trades.trades.now in
     let all = (standing c.args.trades.trades.now c.args.trades.stand).few in
-    record { fits = omega (arith, c.family-figures-overnight.ensures.credit, c.family-figures-forward.ensures.credit) }
+    record { fits = omega (arith, c.family_figures-overnight.ensures.credit, c.family_figures-forward.ensures.credit) }
 
 pub overflow-add-available-2 : goal.overflow-add-available-2
 overflow-add-available-2 g c =
     let few = families_few c.args.market.now.state c.args.trades.trades.now in
     let all = (standing c.args.trades.trades.now c.args.trades.stand).few in
     let cash = (held c.row-row.result c.row-row.ensures.keeps).cash in
-    record { fits = omega (arith, cash, c.family-figures-overnight.ensures.credit, c.family-figures-forward.ensures.credit, c.securities-value-securities.ensures.bound) }
+    record { fits = omega (arith, cash, c.family_figures-overnight.ensures.credit, c.family_figures-forward.ensures.credit, c.securities_value-securities.ensures.bound) }
 
 pub returns : goal.returns
 unfolding figures_of
@@ -40,11 +40,11 @@ returns g c =
     let few = families_few c.args.market.now.state c.args.trades.trades.now in
     let all = (standing c.args.trades.trades.now c.args.trades.stand).few in
     let cash = (held c.row-row.result c.row-row.ensures.keeps).cash in
-    let short = c.saturating-sub.ensures in
+    let short = c.saturating_sub.ensures in
     record {
-      levels = (c.family-figures-overnight.ensures.levels.0, (c.family-figures-overnight.ensures.levels.1, c.family-figures-forward.ensures.levels));
+      levels = (c.family_figures-overnight.ensures.levels.0, (c.family_figures-overnight.ensures.levels.1, c.family_figures-forward.ensures.levels));
       value = cc;
-      obligation = omega (arith, c.family-figures-overnight.ensures.obligation, c.family-figures-forward.ensures.obligation);
-      available = omega (arith, cash, c.family-figures-overnight.ensures.credit, c.family-figures-forward.ensures.credit, c.securities-value-securities.ensures.bound);
-      shortfall = omega (arith, short, c.family-figures-overnight.ensures.obligation, c.family-figures-forward.ensures.obligation);
+      obligation = omega (arith, c.family_figures-overnight.ensures.obligation, c.family_figures-forward.ensures.obligation);
+      available = omega (arith, cash, c.family_figures-overnight.ensures.credit, c.family_figures-forward.ensures.credit, c.securities_value-securities.ensures.bound);
+      shortfall = omega (arith, short, c.family_figures-overnight.ensures.obligation, c.family_figures-forward.ensures.obligation);
     }

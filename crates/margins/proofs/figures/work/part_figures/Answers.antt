@@ -8,8 +8,8 @@ use Rattle.margins.proofs.figures.work.part_figures.Goals as goal
 
 pub new-requires : goal.new-requires
 new-requires g c =
-    let e : c.gather-standing-count.result - 0 ≡ c.gather-standing-count.result = omega arith in
-    ap (λ n. trades_stand (take n c.gather-standing-count.new.room)) e ∙ c.gather-standing-count.ensures.stand
+    let e : c.gather_standing-count.result - 0 ≡ c.gather_standing-count.result = omega arith in
+    ap (λ n. trades_stand (take n c.gather_standing-count.new.room)) e ∙ c.gather_standing-count.ensures.stand
 
 pub returns : goal.returns
 unfolding part_of

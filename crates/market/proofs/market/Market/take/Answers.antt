@@ -7,10 +7,10 @@ use Rattle.market.proofs.market.Market.take.Goals as goal
 
 pub change-requires : goal.change-requires
 change-requires c =
-    let asked : first_no (market_questions c.args.sets c.args.self.now.state c.args.call) ≡ Ok tt = sym c.ask-market.ensures ∙ c.in-Ok.is in
+    let asked : first_no (market_questions c.args.sets c.args.self.now.state c.args.call) ≡ Ok tt = sym c.ask_market.ensures ∙ c.in-Ok.is in
     changeable c.args.sets c.args.self.now.state c.args.call c.args.self.now.keeps asked
 
 pub invariant-of-self : goal.invariant-of-self
 invariant-of-self c =
-    let asked : first_no (market_questions c.args.sets c.args.self.now.state c.args.call) ≡ Ok tt = sym c.ask-market.ensures ∙ c.in-Ok.is in
+    let asked : first_no (market_questions c.args.sets c.args.self.now.state c.args.call) ≡ Ok tt = sym c.ask_market.ensures ∙ c.in-Ok.is in
     (ap market_keeps c.change.ensures ∙ changed_keeps c.args.sets c.args.self.now.state c.args.call c.args.self.now.keeps asked, tt)

@@ -5,8 +5,8 @@ use Rattle.risk.specs.Losses.{AtRisk}
 use Rattle.risk.proofs.Apart.{standing}
 use Rattle.risk.proofs.figures.work.risk_figures.Goals as goal
 
-pub work-out-requires : goal.work-out-requires
-work-out-requires g c = record {
+pub work_out-requires : goal.work_out-requires
+work_out-requires g c = record {
   trades = standing c.rows.result.now c.rows.ensures.stand;
   percent = (orderly c.state-state.result.now c.state-state.ensures.keeps).stepped;
 }
@@ -18,6 +18,6 @@ returns g c =
     let state = c.state-state.ensures.state in
     record {
       value = cc;
-      words = simp (state, rows) at c.work-out.ensures.words;
-      bound = omega (arith, c.work-out.ensures.bound, ap length rows);
+      words = simp (state, rows) at c.work_out.ensures.words;
+      bound = omega (arith, c.work_out.ensures.bound, ap length rows);
     }

@@ -6,6 +6,6 @@ pub returns : goal.returns
 unfolding risk_of
 returns g c = record {
   value = cc;
-  words = c.value-at-risk-whole.ensures.words;
+  words = c.value_at_risk-whole.ensures.words;
   bound = omega arith;
 }

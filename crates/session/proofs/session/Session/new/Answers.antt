@@ -5,7 +5,7 @@ use Rattle.session.proofs.Parts.{same_parts}
 use Rattle.session.proofs.session.Session.new.Goals as goal
 
 pub returns-in-err-model : goal.returns-in-err-model
-returns-in-err-model c = IfOk-from_err c.from-residual-in-err-model.result _ c.from-residual-in-err-model.ensures.0
+returns-in-err-model c = IfOk-from_err c.from_residual-in-err-model.result _ c.from_residual-in-err-model.ensures.0
 
 pub returns : goal.returns
 returns c =

@@ -18,8 +18,8 @@ shock-moved-requires c =
       sizes = shock_held c.args.self.now;
     }
 
-pub change-of-requires : goal.change-of-requires
-change-of-requires c =
+pub change_of-requires : goal.change_of-requires
+change_of-requires c =
     let few : c.args.residual ≤ 120 = search rules in
     let size : nat_abs c.shock-moved.result ≤ 20000 = rw c.shock-moved.ensures (shock_most _ _ _ _ _ (shock_held c.args.self.now) few) in
     let back = same c.shock-moved.result (omega arith) in
