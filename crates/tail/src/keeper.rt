@@ -8,7 +8,7 @@ use super::order::Ranked;
 fn put<T: Ranked + Copy>(places: &mut [T], filled: usize, item: T) -> usize
     requires { filled ≤ length places.old }
     ensures count { result ≡ min (filled + 1) (length places.old) }
-    ensures top { take result places.new ≡ take (length places.old) (placed reaches item (take filled places.old)) }
+    ensures top { take result places.new ≡ take (length places.old) (placed T.reaches item (take filled places.old)) }
 {
     let mut carried = item;
     let mut moved = false;
@@ -32,7 +32,7 @@ fn put<T: Ranked + Copy>(places: &mut [T], filled: usize, item: T) -> usize
 fn keep<T: Ranked + Copy>(places: &mut [T], filled: usize, item: T) -> usize
     requires { filled ≤ length places.old }
     ensures within { result ≤ length places.old }
-    ensures holds { (xs : List T) → Holds reaches xs filled places.old → Holds reaches (xs ++ item ∷ []) result places.new }
+    ensures holds { (xs : List T) → Holds T.reaches xs filled places.old → Holds T.reaches (xs ++ item ∷ []) result places.new }
 {
     if 0 < filled && filled == places.len() {
         let lowest = places[filled - 1];
@@ -45,7 +45,7 @@ fn keep<T: Ranked + Copy>(places: &mut [T], filled: usize, item: T) -> usize
 
 // Keeps each of `entries` in turn. The answer is how many places are filled.
 pub fn keep_all<T: Ranked + Copy>(entries: &[T], places: &mut [T]) -> usize
-    ensures { Holds reaches entries.now result places.new }
+    ensures { Holds T.reaches entries.now result places.new }
 {
     let mut filled = 0;
     for x in entries {
@@ -56,8 +56,8 @@ pub fn keep_all<T: Ranked + Copy>(entries: &[T], places: &mut [T]) -> usize
 
 // The k-th highest of `entries`, where k is how many places there are; none where there are fewer entries, or no place.
 pub fn kth_highest<T: Ranked + Copy>(entries: &[T], places: &mut [T]) -> Option<T>
-    ensures kth { MatchOption result (Short (length places.old) entries.now) (λ l. Kth reaches (length places.old) entries.now l) }
-    ensures value { MatchOption result (Short (length places.old) entries.now) (λ l. (d : T) → l ≡ slice_index_or (ranked reaches entries.now) (length places.old - 1) d) }
+    ensures kth { MatchOption result (Short (length places.old) entries.now) (λ l. Kth T.reaches (length places.old) entries.now l) }
+    ensures value { MatchOption result (Short (length places.old) entries.now) (λ l. (d : T) → l ≡ slice_index_or (ranked T.reaches entries.now) (length places.old - 1) d) }
 {
     let filled = keep_all(entries, places);
     if 0 < filled && filled == places.len() {

@@ -22,7 +22,7 @@ pub returns : goal.returns
 returns g c =
     let m = g.M.MarginModel.meaning c.args.model.now in
     let law = g.M.MarginModel.lawful c.args.model.now in
-    let fits : SFits w64 c.lowest_of_tail.result = record { sfits = c.lowest_of_tail.type-inv } in
+    let fits : SFits w64 c.lowest_of_tail.result = record { sfits = c.lowest_of_tail.type_inv } in
     let is = var_from m c.args.day c.args.group.now c.lowest_of_tail.result (to_z w64 (of_z w64 c.lowest_of_tail.result)) c.gain.result (to_z-of_z w64 c.lowest_of_tail.result fits) c.lowest_of_tail.ensures c.gain.ensures in
     record {
       value = is;

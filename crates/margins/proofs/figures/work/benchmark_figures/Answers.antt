@@ -16,14 +16,14 @@ gross_notional-requires g c = standing c.rows-rows.result.now c.rows-rows.ensure
 pub margin_credit-requires : goal.margin_credit-requires
 margin_credit-requires g c =
     let few = (standing c.rows-rows.result.now c.rows-rows.ensures.stand).few in
-    let back = to_z-of_z w64 c.mark_to_market-mark.result (record { sfits = c.mark_to_market-mark.type-inv }) in
+    let back = to_z-of_z w64 c.mark_to_market-mark.result (record { sfits = c.mark_to_market-mark.type_inv }) in
     simp back (omega (arith, c.mark_to_market-mark.ensures.bound))
 
 pub returns : goal.returns
 unfolding benchmark_of
 returns g c =
     let mark = c.mark_to_market-mark.result in
-    let back = to_z-of_z w64 mark (record { sfits = c.mark_to_market-mark.type-inv }) in
+    let back = to_z-of_z w64 mark (record { sfits = c.mark_to_market-mark.type_inv }) in
     let rows = c.rows-rows.ensures.rows in
     let long = ap length rows in
     let lost-is = c.lost.ensures ∙ ap lost_of back in
