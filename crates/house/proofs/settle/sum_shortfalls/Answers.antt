@@ -5,8 +5,8 @@ use Rattle.tables.specs.declared.row.AccountRow.{AccountRow}
 use Rattle.tables.specs.Books.{no_row}
 use Rattle.house.proofs.settle.sum_shortfalls.Goals as goal
 
-pub overflow-add-sum : goal.overflow-add-sum
-overflow-add-sum c =
+pub overflow_add-sum : goal.overflow_add-sum
+overflow_add-sum c =
     let fit = All-get_or (λ (r : AccountRow). r.shortfall ≤ 3000000000000000) c.args.rows.now c.loop-row.row-index no_row c.loop-row-test.true c.requires.each in
     record { fits = omega (arith, fit, c.loop-row.invariant.2, c.requires.few) }
 

@@ -8,8 +8,8 @@ scaled-requires c = (
   scaled_most c.args.low c.args.high c.args.part c.args.whole c.requires.sizes.0 c.requires.sizes.1 c.requires.parts.0 c.requires.parts.1.0 c.requires.parts.1.1,
 )
 
-pub overflow-add-result : goal.overflow-add-result
-overflow-add-result c =
+pub overflow_add-result : goal.overflow_add-result
+overflow_add-result c =
     (sum_is c.args.low c.args.high c.args.part c.args.whole c.requires.sizes.0 c.requires.sizes.1 c.requires.parts.0 c.requires.parts.1.0 c.requires.parts.1.1
     c.scaled.result c.floored.result (record { sfits = c.scaled.type_inv }) (record { sfits = c.floored.type_inv }) c.scaled.ensures c.floored.ensures.value).0
 

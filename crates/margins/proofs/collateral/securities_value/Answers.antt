@@ -23,8 +23,8 @@ loop-i-preserved c =
       omega (arith, c.row_value-sum.ensures.bound, c.loop-i.invariant.1),
     )
 
-pub overflow-add-sum : goal.overflow-add-sum
-overflow-add-sum c =
+pub overflow_add-sum : goal.overflow_add-sum
+overflow_add-sum c =
     let few = All-get_or (λ n. n ≤ 1000000) c.args.lots.now c.loop-i.i 0 (omega (arith, c.requires.lots.0)) c.requires.lots.1 in
     record { fits = omega (arith, c.row_value-sum.ensures.bound, c.loop-i.invariant.1) }
 

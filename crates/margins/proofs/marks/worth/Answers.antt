@@ -4,13 +4,13 @@ use Rattle.margins.specs.Marks.{worth_of}
 use Rattle.margins.proofs.Worths.{worth_most, part_is, part_fits, worth_fits, worth_is}
 use Rattle.margins.proofs.marks.worth.Goals as goal
 
-pub overflow-mul-result : goal.overflow-mul-result
-overflow-mul-result c =
+pub overflow_mul-result : goal.overflow_mul-result
+overflow_mul-result c =
     let is = part_is c.args.notional c.args.rate c.args.fixed c.args.tick c.requires.0 c.requires.1.0 c.requires.1.1.0 c.requires.1.1.1 in
     simp is (part_fits c.args.notional c.args.rate c.args.fixed c.args.tick c.requires.0 c.requires.1.0 c.requires.1.1.0 c.requires.1.1.1)
 
-pub overflow-mul-result-2 : goal.overflow-mul-result-2
-overflow-mul-result-2 c =
+pub overflow_mul-result-2 : goal.overflow_mul-result-2
+overflow_mul-result-2 c =
     let is = part_is c.args.notional c.args.rate c.args.fixed c.args.tick c.requires.0 c.requires.1.0 c.requires.1.1.0 c.requires.1.1.1 in
     let all = worth_is c.args.notional c.args.rate c.args.fixed c.args.tick c.requires.0 c.requires.1.0 c.requires.1.1.0 c.requires.1.1.1 in
     simp (is, all) (worth_fits c.args.notional c.args.rate c.args.fixed c.args.tick c.requires.0 c.requires.1.0 c.requires.1.1.0 c.requires.1.1.1)

@@ -4,8 +4,8 @@ use Rattle.rules.specs.Opening.{empty_row}
 use Rattle.opening.proofs.Opened.{Allowed, allowed, opened_keeps}
 use Rattle.opening.proofs.opening.open_now.Goals as goal
 
-pub invariant-of-house : goal.invariant-of-house
-invariant-of-house c =
+pub invariant_of-house : goal.invariant_of-house
+invariant_of-house c =
     let a = allowed c.args.accounts c.args.month c.args.records.now c.args.trades.now c.requires in
     (a.some, (a.few, tt))
 

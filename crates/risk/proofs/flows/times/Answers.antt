@@ -6,8 +6,8 @@ use Rattle.risk.proofs.flows.times.Goals as goal
 product_fits : (c : goal.Start) → SFits w64 (pos c.args.notional *ℤ c.args.each)
 product_fits c = fits_64 _ (omega (arith, times_most c.args.notional c.args.each c.requires.0 c.requires.1))
 
-pub overflow-mul-result : goal.overflow-mul-result
-overflow-mul-result c = simp (cast_times c.args.notional c.args.each c.requires.0 c.requires.1) (product_fits c)
+pub overflow_mul-result : goal.overflow_mul-result
+overflow_mul-result c = simp (cast_times c.args.notional c.args.each c.requires.0 c.requires.1) (product_fits c)
 
 pub returns : goal.returns
 returns c =

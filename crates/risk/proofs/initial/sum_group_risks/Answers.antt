@@ -16,8 +16,8 @@ loop-key-preserved g c =
     sum_next (λ k. var_of (g.M.MarginModel.meaning c.args.model.now) c.args.day (group_trades c.args.grouping c.args.day k c.args.trades.now))
     c.loop-key.sum c.loop-key.key c.group_risk-sum.result c.loop-key.invariant c.group_risk-sum.ensures
 
-pub overflow-add-sum : goal.overflow-add-sum
-overflow-add-sum g c =
+pub overflow_add-sum : goal.overflow_add-sum
+overflow_add-sum g c =
     let m = g.M.MarginModel.meaning c.args.model.now in
     let law = g.M.MarginModel.lawful c.args.model.now in
     let next = loop-key-preserved g c in

@@ -3,8 +3,8 @@ use Rattle.std.proofs.lemmas.Int.{to_z-of_z}
 use Rattle.risk.proofs.Risks.{tail_all}
 use Rattle.risk.proofs.losses.lowest_of_tail.Goals as goal
 
-pub overflow-sub-result : goal.overflow-sub-result
-overflow-sub-result g c =
+pub overflow_sub-result : goal.overflow_sub-result
+overflow_sub-result g c =
     let m = g.M.MarginModel.meaning c.args.model.now in
     let law = g.M.MarginModel.lawful c.args.model.now in
     omega (arith, (tail_all m c.args.day c.args.group.now c.fill_losses.new.room c.keep_all-filled.new.places c.keep_all-filled.result c.fill_losses.ensures (omega (arith, c.requires.places)) law.some_scenario c.keep_all-filled.ensures).0)

@@ -15,20 +15,20 @@ securities_value-securities-requires g c = record {
   securities = (search rules, (orderly c.state.result.now c.state.ensures.keeps).priced);
 }
 
-pub overflow-add-obligation : goal.overflow-add-obligation
-overflow-add-obligation g c =
+pub overflow_add-obligation : goal.overflow_add-obligation
+overflow_add-obligation g c =
     let few = families_few c.args.market.now.state c.args.trades.trades.now in
     let all = (standing c.args.trades.trades.now c.args.trades.stand).few in
     record { fits = omega (arith, c.family_figures-overnight.ensures.obligation, c.family_figures-forward.ensures.obligation) }
 
-pub overflow-add-available : goal.overflow-add-available
-overflow-add-available g c =
+pub overflow_add-available : goal.overflow_add-available
+overflow_add-available g c =
     let few = families_few c.args.market.now.state c.args.trades.trades.now in
     let all = (standing c.args.trades.trades.now c.args.trades.stand).few in
     record { fits = omega (arith, c.family_figures-overnight.ensures.credit, c.family_figures-forward.ensures.credit) }
 
-pub overflow-add-available-2 : goal.overflow-add-available-2
-overflow-add-available-2 g c =
+pub overflow_add-available-2 : goal.overflow_add-available-2
+overflow_add-available-2 g c =
     let few = families_few c.args.market.now.state c.args.trades.trades.now in
     let all = (standing c.args.trades.trades.now c.args.trades.stand).few in
     let cash = (held c.row-row.result c.row-row.ensures.keeps).cash in

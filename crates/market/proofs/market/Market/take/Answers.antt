@@ -10,7 +10,7 @@ change-requires c =
     let asked : first_no (market_questions c.args.sets c.args.self.now.state c.args.call) ≡ Ok tt = sym c.ask_market.ensures ∙ c.in-Ok.is in
     changeable c.args.sets c.args.self.now.state c.args.call c.args.self.now.keeps asked
 
-pub invariant-of-self : goal.invariant-of-self
-invariant-of-self c =
+pub invariant_of-self : goal.invariant_of-self
+invariant_of-self c =
     let asked : first_no (market_questions c.args.sets c.args.self.now.state c.args.call) ≡ Ok tt = sym c.ask_market.ensures ∙ c.in-Ok.is in
-    (ap market_keeps c.change.ensures ∙ changed_keeps c.args.sets c.args.self.now.state c.args.call c.args.self.now.keeps asked, tt)
+    record { keeps = ap market_keeps c.change.ensures ∙ changed_keeps c.args.sets c.args.self.now.state c.args.call c.args.self.now.keeps asked }
