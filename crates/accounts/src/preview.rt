@@ -27,7 +27,7 @@ fn settle_places<M: MarginModel>(
     places: &[TradeRow],
 ) -> AccountRow
     requires { (holdings_keep row ≡ true) × ((length places.now ≡ 64) × (places_keep row.trades places.now ≡ true)) }
-    ensures value { result ≡ settled_row (meaning model.now) market.now.state cover.paise row (take row.trades places.now) }
+    ensures value { result ≡ settled_row (M.meaning model.now) market.now.state cover.paise row (take row.trades places.now) }
     ensures keeps { holdings_keep result ≡ true }
     ensures within { Within cover.paise result }
 {
@@ -46,7 +46,7 @@ pub fn preview<M: MarginModel>(
     held: HeldBook,
     call: AccountCall,
 ) -> Result<HeldBook, Refusal>
-    ensures { Previewed cover.paise (ordered (meaning model.now) market.now.state house cover.paise (book_in held) call) result }
+    ensures { Previewed cover.paise (ordered (M.meaning model.now) market.now.state house cover.paise (book_in held) call) result }
 {
     let row = held.row();
     let mut room = held.places();

@@ -20,7 +20,7 @@ pub fn settle<M: MarginModel>(
     account: &Account,
     trades: StandingTrades,
 ) -> AccountRow
-    ensures value { result ≡ settled_row (meaning model.now) market.now.state cover.paise account.now.row trades.entry.trades.now }
+    ensures value { result ≡ settled_row (M.meaning model.now) market.now.state cover.paise account.now.row trades.entry.trades.now }
     ensures keeps { holdings_keep result ≡ true }
     ensures obligation { result.obligation ≤ 3000000000000000 + cover.paise }
     ensures available { result.available ≤ 3000000000000000 }

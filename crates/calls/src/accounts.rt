@@ -17,7 +17,7 @@ pub fn new_trade<M: MarginModel>(
     account: u32,
     trade: TradeRow,
 ) -> Answer
-    ensures { Answered (meaning model.now) house.now.market.state house.now.accounts records.old records.new trades.old trades.new account (AccountCall.Trade trade) result }
+    ensures { Answered (M.meaning model.now) house.now.market.state house.now.accounts records.old records.new trades.old trades.new account (AccountCall.Trade trade) result }
 {
     answer_account(
         house,
@@ -38,7 +38,7 @@ pub fn end_trade<M: MarginModel>(
     account: u32,
     number: u32,
 ) -> Answer
-    ensures { Answered (meaning model.now) house.now.market.state house.now.accounts records.old records.new trades.old trades.new account (AccountCall.End number) result }
+    ensures { Answered (M.meaning model.now) house.now.market.state house.now.accounts records.old records.new trades.old trades.new account (AccountCall.End number) result }
 {
     answer_account(
         house,
@@ -59,7 +59,7 @@ pub fn lodge_cash<M: MarginModel>(
     account: u32,
     amount: u64,
 ) -> Answer
-    ensures { Answered (meaning model.now) house.now.market.state house.now.accounts records.old records.new trades.old trades.new account (AccountCall.LodgeCash amount) result }
+    ensures { Answered (M.meaning model.now) house.now.market.state house.now.accounts records.old records.new trades.old trades.new account (AccountCall.LodgeCash amount) result }
 {
     answer_account(
         house,
@@ -80,7 +80,7 @@ pub fn draw_cash<M: MarginModel>(
     account: u32,
     amount: u64,
 ) -> Answer
-    ensures { Answered (meaning model.now) house.now.market.state house.now.accounts records.old records.new trades.old trades.new account (AccountCall.DrawCash amount) result }
+    ensures { Answered (M.meaning model.now) house.now.market.state house.now.accounts records.old records.new trades.old trades.new account (AccountCall.DrawCash amount) result }
 {
     answer_account(
         house,
@@ -102,7 +102,7 @@ pub fn lodge_security<M: MarginModel>(
     security: u32,
     lots: u32,
 ) -> Answer
-    ensures { Answered (meaning model.now) house.now.market.state house.now.accounts records.old records.new trades.old trades.new account (AccountCall.LodgeSecurity security lots) result }
+    ensures { Answered (M.meaning model.now) house.now.market.state house.now.accounts records.old records.new trades.old trades.new account (AccountCall.LodgeSecurity security lots) result }
 {
     answer_account(
         house,
@@ -124,7 +124,7 @@ pub fn draw_security<M: MarginModel>(
     security: u32,
     lots: u32,
 ) -> Answer
-    ensures { Answered (meaning model.now) house.now.market.state house.now.accounts records.old records.new trades.old trades.new account (AccountCall.DrawSecurity security lots) result }
+    ensures { Answered (M.meaning model.now) house.now.market.state house.now.accounts records.old records.new trades.old trades.new account (AccountCall.DrawSecurity security lots) result }
 {
     answer_account(
         house,
@@ -144,7 +144,7 @@ pub fn show<M: MarginModel>(
     trades: &mut [TradeRow],
     account: u32,
 ) -> Answer
-    ensures { Answered (meaning model.now) house.now.market.state house.now.accounts records.old records.new trades.old trades.new account (AccountCall.Show) result }
+    ensures { Answered (M.meaning model.now) house.now.market.state house.now.accounts records.old records.new trades.old trades.new account (AccountCall.Show) result }
 {
     answer_account(house, model, records, trades, account, AccountCall::Show)
 }

@@ -18,7 +18,7 @@ pub fn answer<M: MarginModel>(
     call: Call,
 ) -> Reply
     ensures accounts { house.new.accounts ≡ house.old.accounts }
-    ensures answered { AnswersCall (meaning model.now) house.old.market.state house.new.market.state house.old.accounts records.old records.new trades.old trades.new call result }
+    ensures answered { AnswersCall (M.meaning model.now) house.old.market.state house.new.market.state house.old.accounts records.old records.new trades.old trades.new call result }
 {
     match call {
         Call::Account(named) => Reply::Account(answer_account(

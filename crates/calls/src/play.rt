@@ -28,7 +28,7 @@ pub fn play<M: MarginModel>(
     events: &[Event],
     answers: &mut [Reply],
 ) -> Played
-    ensures { PlaysDay (meaning model.now) month accounts house.old.market.state house.new.market.state house.old.accounts house.new.accounts records.old records.new trades.old trades.new events.now answers.old answers.new result }
+    ensures { PlaysDay (M.meaning model.now) month accounts house.old.market.state house.new.market.state house.old.accounts house.new.accounts records.old records.new trades.old trades.new events.now answers.old answers.new result }
 {
     let number = open(house, accounts, month, records, trades);
     if number != 0 {

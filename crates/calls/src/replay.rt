@@ -22,8 +22,8 @@ fn play_event<M: MarginModel>(
 ) -> Reply
     requires { tables_keep house.old.accounts records.old trades.old ≡ true }
     ensures accounts { house.new.accounts ≡ house.old.accounts }
-    ensures replied { result ≡ reply (meaning model.now) (standing house.old.market.state records.old trades.old) event }
-    ensures stands { standing house.new.market.state records.new trades.new ≡ after (meaning model.now) (standing house.old.market.state records.old trades.old) event }
+    ensures replied { result ≡ reply (M.meaning model.now) (standing house.old.market.state records.old trades.old) event }
+    ensures stands { standing house.new.market.state records.new trades.new ≡ after (M.meaning model.now) (standing house.old.market.state records.old trades.old) event }
     ensures keeps { tables_keep house.new.accounts records.new trades.new ≡ true }
 {
     match event {
@@ -44,9 +44,9 @@ fn play_events<M: MarginModel>(
     requires { tables_keep house.old.accounts records.old trades.old ≡ true }
     ensures accounts { house.new.accounts ≡ house.old.accounts }
     ensures count { result ≡ min (length events.now) (length answers.old) }
-    ensures replied { take result answers.new ≡ replies (meaning model.now) (standing house.old.market.state records.old trades.old) (take result events.now) }
+    ensures replied { take result answers.new ≡ replies (M.meaning model.now) (standing house.old.market.state records.old trades.old) (take result events.now) }
     ensures rest { drop result answers.new ≡ drop result answers.old }
-    ensures stands { standing house.new.market.state records.new trades.new ≡ run (meaning model.now) (standing house.old.market.state records.old trades.old) (take result events.now) }
+    ensures stands { standing house.new.market.state records.new trades.new ≡ run (M.meaning model.now) (standing house.old.market.state records.old trades.old) (take result events.now) }
     ensures keeps { tables_keep house.old.accounts records.new trades.new ≡ true }
 {
     let count = events.len().min(answers.len());
@@ -68,7 +68,7 @@ pub fn replay<M: MarginModel>(
     answers: &mut [Reply],
 ) -> usize
     ensures accounts { house.new.accounts ≡ house.old.accounts }
-    ensures replays { Replays (meaning model.now) house.old.market.state house.new.market.state house.old.accounts records.old records.new trades.old trades.new events.now answers.old answers.new result }
+    ensures replays { Replays (M.meaning model.now) house.old.market.state house.new.market.state house.old.accounts records.old records.new trades.old trades.new events.now answers.old answers.new result }
 {
     if !tables_keep(house.accounts, records, trades) {
         return 0;

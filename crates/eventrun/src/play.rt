@@ -69,7 +69,7 @@ fn play_opened<M: MarginModel>(
     month: u16,
     later: &[Event],
 ) -> Result<FilePlayed, AllocError>
-    ensures { IfOk result (λ p. Plays (meaning model.now) (Open accounts month ∷ later.now) p) }
+    ensures { IfOk result (λ p. Plays (M.meaning model.now) (Open accounts month ∷ later.now) p) }
 {
     let calls = calls_in(heap, later)?;
     let mut answers = vec![in heap; NO_REPLY; calls.len()]?;
@@ -105,7 +105,7 @@ fn play_from<M: MarginModel>(
     first: Event,
     later: &[Event],
 ) -> Result<FilePlayed, AllocError>
-    ensures { IfOk result (λ p. Plays (meaning model.now) (first ∷ later.now) p) }
+    ensures { IfOk result (λ p. Plays (M.meaning model.now) (first ∷ later.now) p) }
 {
     match first {
         Event::Open { accounts, month } => play_opened(heap, model, accounts, month, later),
@@ -122,7 +122,7 @@ pub fn play_records<M: MarginModel>(
     model: &M,
     events: &[Event],
 ) -> Result<FilePlayed, AllocError>
-    ensures { IfOk result (λ p. Plays (meaning model.now) events.now p) }
+    ensures { IfOk result (λ p. Plays (M.meaning model.now) events.now p) }
 {
     match events.first() {
         Some(first) => play_from(heap, model, *first, &events[1..]),
@@ -139,7 +139,7 @@ pub fn run_file<M: MarginModel>(
     model: &M,
     bytes: &[u8],
 ) -> Result<FileRun, AllocError>
-    ensures { IfOk result (λ f. IsFileRun (meaning model.now) bytes.now f) }
+    ensures { IfOk result (λ f. IsFileRun (M.meaning model.now) bytes.now f) }
 {
     let found = read_file(heap, bytes)?;
     let played = play_records(heap, model, found.events.as_slice())?;

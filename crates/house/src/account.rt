@@ -107,12 +107,12 @@ fn act<M: MarginModel>(
 ) -> Answer
     requires tables { tables_keep house.now.accounts records.old trades.old ≡ true }
     requires there { account < house.now.accounts }
-    ensures answer { result ≡ account_reply (meaning model.now) (standing house.now.market.state records.old trades.old) account call }
-    ensures rows { records.new ≡ rows_of (after_account (meaning model.now) (standing house.now.market.state records.old trades.old) account call) }
-    ensures trades { trades.new ≡ trades_of (after_account (meaning model.now) (standing house.now.market.state records.old trades.old) account call) }
+    ensures answer { result ≡ account_reply (M.meaning model.now) (standing house.now.market.state records.old trades.old) account call }
+    ensures rows { records.new ≡ rows_of (after_account (M.meaning model.now) (standing house.now.market.state records.old trades.old) account call) }
+    ensures trades { trades.new ≡ trades_of (after_account (M.meaning model.now) (standing house.now.market.state records.old trades.old) account call) }
     ensures keeps { tables_keep house.now.accounts records.new trades.new ≡ true }
-    ensures rests { result.number ≡ 0 → AtRest (meaning model.now) house.now.market.state records.new trades.new }
-    ensures stands { standing house.now.market.state records.new trades.new ≡ after_account (meaning model.now) (standing house.now.market.state records.old trades.old) account call }
+    ensures rests { result.number ≡ 0 → AtRest (M.meaning model.now) house.now.market.state records.new trades.new }
+    ensures stands { standing house.now.market.state records.new trades.new ≡ after_account (M.meaning model.now) (standing house.now.market.state records.old trades.old) account call }
 {
     let held = read_book(records, trades, account);
     let cover = cover_for(house, records, trades, account);
@@ -135,7 +135,7 @@ pub fn answer_account<M: MarginModel>(
     account: u32,
     call: AccountCall,
 ) -> Answer
-    ensures { Answered (meaning model.now) house.now.market.state house.now.accounts records.old records.new trades.old trades.new account call result }
+    ensures { Answered (M.meaning model.now) house.now.market.state house.now.accounts records.old records.new trades.old trades.new account call result }
 {
     if !tables_keep(house.accounts, records, trades) {
         return refused(Refusal::Tables);

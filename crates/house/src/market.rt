@@ -68,13 +68,13 @@ fn act<M: MarginModel>(
 ) -> MarketAnswer
     requires { tables_keep house.old.accounts records.old trades.old ≡ true }
     ensures accounts { house.new.accounts ≡ house.old.accounts }
-    ensures answer { result ≡ market_reply (meaning model.now) (standing house.old.market.state records.old trades.old) call }
-    ensures market { house.new.market.state ≡ (after_market (meaning model.now) (standing house.old.market.state records.old trades.old) call).market }
-    ensures rows { records.new ≡ rows_of (after_market (meaning model.now) (standing house.old.market.state records.old trades.old) call) }
-    ensures trades { trades.new ≡ trades_of (after_market (meaning model.now) (standing house.old.market.state records.old trades.old) call) }
+    ensures answer { result ≡ market_reply (M.meaning model.now) (standing house.old.market.state records.old trades.old) call }
+    ensures market { house.new.market.state ≡ (after_market (M.meaning model.now) (standing house.old.market.state records.old trades.old) call).market }
+    ensures rows { records.new ≡ rows_of (after_market (M.meaning model.now) (standing house.old.market.state records.old trades.old) call) }
+    ensures trades { trades.new ≡ trades_of (after_market (M.meaning model.now) (standing house.old.market.state records.old trades.old) call) }
     ensures keeps { tables_keep house.old.accounts records.new trades.new ≡ true }
-    ensures rests { result.number ≡ 0 → AtRest (meaning model.now) house.new.market.state records.new trades.new }
-    ensures stands { standing house.new.market.state records.new trades.new ≡ after_market (meaning model.now) (standing house.old.market.state records.old trades.old) call }
+    ensures rests { result.number ≡ 0 → AtRest (M.meaning model.now) house.new.market.state records.new trades.new }
+    ensures stands { standing house.new.market.state records.new trades.new ≡ after_market (M.meaning model.now) (standing house.old.market.state records.old trades.old) call }
 {
     match house.market.take(model.sets(), call) {
         Err(refusal) => answered(refusal.number(), &house.market),
@@ -96,7 +96,7 @@ pub fn answer_market<M: MarginModel>(
     call: MarketCall,
 ) -> MarketAnswer
     ensures accounts { house.new.accounts ≡ house.old.accounts }
-    ensures answered { MarketAnswered (meaning model.now) house.old.market.state house.new.market.state house.old.accounts records.old records.new trades.old trades.new call result }
+    ensures answered { MarketAnswered (M.meaning model.now) house.old.market.state house.new.market.state house.old.accounts records.old records.new trades.old trades.new call result }
 {
     if !tables_keep(house.accounts, records, trades) {
         return answered(Refusal::Tables.number(), &house.market);

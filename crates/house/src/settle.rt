@@ -77,7 +77,7 @@ pub(crate) fn settle_account<M: MarginModel>(
     requires long { 64 * account + 64 ≤ length trades.now }
     requires row { holdings_keep row ≡ true }
     requires places { places_keep row.trades (places_at trades.now account) ≡ true }
-    ensures value { result ≡ settled_row (meaning model.now) market.now.state cover.paise row (take row.trades (places_at trades.now account)) }
+    ensures value { result ≡ settled_row (M.meaning model.now) market.now.state cover.paise row (take row.trades (places_at trades.now account)) }
     ensures keeps { holdings_keep result ≡ true }
     ensures obligation { result.obligation ≤ 3000000000000000 + cover.paise }
     ensures available { result.available ≤ 3000000000000000 }
@@ -99,7 +99,7 @@ fn settle_own<M: MarginModel>(
     requires long { 64 ≤ length trades.now }
     requires row { holdings_keep row ≡ true }
     requires places { places_keep row.trades (places_at trades.now 0) ≡ true }
-    ensures value { result ≡ with_second (settled_row (meaning model.now) market.now.state cover.paise row (take row.trades (places_at trades.now 0))) false }
+    ensures value { result ≡ with_second (settled_row (M.meaning model.now) market.now.state cover.paise row (take row.trades (places_at trades.now 0))) false }
     ensures keeps { holdings_keep result ≡ true }
     ensures figures { figures_keep 96000000000000000 result ≡ true }
 {
@@ -116,9 +116,9 @@ pub(crate) fn finish_settling<M: MarginModel>(
     trades: &[TradeRow],
 )
     requires { tables_keep house.now.accounts records.old trades.now ≡ true }
-    ensures rows { records.new ≡ rows_of (finish (meaning model.now) (standing house.now.market.state records.old trades.now)) }
+    ensures rows { records.new ≡ rows_of (finish (M.meaning model.now) (standing house.now.market.state records.old trades.now)) }
     ensures keeps { tables_keep house.now.accounts records.new trades.now ≡ true }
-    ensures rests { AtRest (meaning model.now) house.now.market.state records.new trades.now }
+    ensures rests { AtRest (M.meaning model.now) house.now.market.state records.new trades.now }
 {
     let cover = Cover::of(sum_shortfalls(constituents(records)));
     let row = records[0];
@@ -135,7 +135,7 @@ pub(crate) fn settle_constituents<M: MarginModel>(
     trades: &[TradeRow],
 )
     requires { tables_keep house.now.accounts records.old trades.now ≡ true }
-    ensures books { books_of records.new trades.now ≡ (slice_index_or (books_of records.old trades.now) 0 no_book ∷ map (settled (meaning model.now) house.now.market.state 0) (drop 1 (books_of records.old trades.now))) }
+    ensures books { books_of records.new trades.now ≡ (slice_index_or (books_of records.old trades.now) 0 no_book ∷ map (settled (M.meaning model.now) house.now.market.state 0) (drop 1 (books_of records.old trades.now))) }
     ensures keeps { tables_keep house.now.accounts records.new trades.now ≡ true }
 {
     for i in 1..records.len() {

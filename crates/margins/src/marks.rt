@@ -34,7 +34,7 @@ fn for_side(side: Side, worth: i64) -> i64
 // The mark of a trade, in paise.
 fn mark<M: MarginModel>(model: &M, day: Day, trade: &TradeRow) -> i64
     requires { TradeFits trade.now }
-    ensures value { result ≡ mark_of (meaning model.now) day trade.now }
+    ensures value { result ≡ mark_of (M.meaning model.now) day trade.now }
     ensures bound { unsigned_abs result ≤ 20000000000000 }
 {
     let residual = day.residual(trade);
@@ -50,7 +50,7 @@ fn mark<M: MarginModel>(model: &M, day: Day, trade: &TradeRow) -> i64
 // The marks of the trades, added up.
 pub(crate) fn mark_to_market<M: MarginModel>(model: &M, day: Day, trades: &[TradeRow]) -> i64
     requires { Standing trades.now }
-    ensures value { result ≡ marks_of (meaning model.now) day trades.now }
+    ensures value { result ≡ marks_of (M.meaning model.now) day trades.now }
     ensures bound { unsigned_abs result ≤ 20000000000000 * length trades.now }
 {
     let mut sum = 0i64;

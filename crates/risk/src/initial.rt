@@ -27,7 +27,7 @@ fn group_risk<M: MarginModel>(
     trades: &[TradeRow],
 ) -> u64
     requires { Standing trades.now }
-    ensures { result ≡ var_of (meaning model.now) day (group_trades grouping day key trades.now) }
+    ensures { result ≡ var_of (M.meaning model.now) day (group_trades grouping day key trades.now) }
 {
     let mut room = [NO_TRADE; 64];
     let count = gather(grouping, day, key, trades, &mut room);
@@ -42,7 +42,7 @@ pub(crate) fn sum_group_risks<M: MarginModel>(
     trades: &[TradeRow],
 ) -> u64
     requires { Standing trades.now }
-    ensures value { result ≡ grouped_risk (meaning model.now) day grouping trades.now }
+    ensures value { result ≡ grouped_risk (M.meaning model.now) day grouping trades.now }
     ensures bound { result ≤ 2000000000000 * length trades.now }
 {
     let mut sum = 0;

@@ -14,7 +14,7 @@ use tail::keeper::keep_all;
 // What a trade loses in a scenario.
 fn leg<M: MarginModel>(model: &M, day: Day, scenario: u32, trade: &TradeRow) -> i64
     requires { TradeFits trade.now }
-    ensures value { result ≡ leg_of (meaning model.now) day scenario trade.now }
+    ensures value { result ≡ leg_of (M.meaning model.now) day scenario trade.now }
     ensures bound { unsigned_abs result ≤ 2000000000000 }
 {
     let change = model.change(
@@ -29,9 +29,9 @@ fn leg<M: MarginModel>(model: &M, day: Day, scenario: u32, trade: &TradeRow) -> 
 // Adds what a trade loses in each scenario.
 fn add_legs<M: MarginModel>(model: &M, day: Day, trade: &TradeRow, room: &mut [i64])
     requires trade { TradeFits trade.now }
-    requires room { length room.old ≡ (meaning model.now).scenarios }
+    requires room { length room.old ≡ (M.meaning model.now).scenarios }
     requires small { (j : ℕ) → unsigned_abs (slice_index_or room.old j (pos 0)) ≤ 126000000000000 }
-    ensures { (j : ℕ) → j < length room.old → slice_index_or room.new j (pos 0) ≡ slice_index_or room.old j (pos 0) +ℤ leg_of (meaning model.now) day j trade.now }
+    ensures { (j : ℕ) → j < length room.old → slice_index_or room.new j (pos 0) ≡ slice_index_or room.old j (pos 0) +ℤ leg_of (M.meaning model.now) day j trade.now }
 {
     for j in 0..model.scenarios() {
         room[j as usize] += leg(model, day, j, trade);
@@ -41,9 +41,9 @@ fn add_legs<M: MarginModel>(model: &M, day: Day, trade: &TradeRow, room: &mut [i
 // What the group loses in each scenario, in a room that is 0 throughout.
 fn fill_losses<M: MarginModel>(model: &M, day: Day, group: &[TradeRow], room: &mut [i64])
     requires group { Standing group.now }
-    requires room { length room.old ≡ (meaning model.now).scenarios }
+    requires room { length room.old ≡ (M.meaning model.now).scenarios }
     requires nil { (j : ℕ) → slice_index_or room.old j (pos 0) ≡ pos 0 }
-    ensures { room.new ≡ losses_of (meaning model.now) day group.now }
+    ensures { room.new ≡ losses_of (M.meaning model.now) day group.now }
 {
     for trade in group {
         add_legs(model, day, trade, room);
@@ -59,10 +59,10 @@ fn lowest_of_tail<M: MarginModel>(
     places: &mut [i64],
 ) -> i64
     requires group { Standing group.now }
-    requires room { length room.old ≡ (meaning model.now).scenarios }
+    requires room { length room.old ≡ (M.meaning model.now).scenarios }
     requires nil { (j : ℕ) → slice_index_or room.old j (pos 0) ≡ pos 0 }
-    requires places { length places.old ≡ tail_size (meaning model.now).scenarios }
-    ensures { result ≡ tail_loss (meaning model.now) day group.now }
+    requires places { length places.old ≡ tail_size (M.meaning model.now).scenarios }
+    ensures { result ≡ tail_loss (M.meaning model.now) day group.now }
 {
     fill_losses(model, day, group, room);
     let filled = keep_all(room, places);
@@ -72,8 +72,8 @@ fn lowest_of_tail<M: MarginModel>(
 // The value at risk of a group. No scenario is walked for an empty one.
 pub(crate) fn value_at_risk<M: MarginModel>(model: &M, day: Day, group: &[TradeRow]) -> u64
     requires { Standing group.now }
-    ensures value { result ≡ var_of (meaning model.now) day group.now }
-    ensures words { AtRisk (meaning model.now) day group.now result }
+    ensures value { result ≡ var_of (M.meaning model.now) day group.now }
+    ensures words { AtRisk (M.meaning model.now) day group.now result }
     ensures bound { result ≤ 2000000000000 * length group.now }
 {
     if group.is_empty() {

@@ -42,7 +42,7 @@ fn benchmark_figures<M: MarginModel>(
     market: &Market,
     trades: StandingTrades,
 ) -> BenchmarkFigures
-    ensures value { result ≡ benchmark_of (meaning model.now) market.now.state trades.entry.trades.now }
+    ensures value { result ≡ benchmark_of (M.meaning model.now) market.now.state trades.entry.trades.now }
     ensures bound { Bounded result (length trades.entry.trades.now) }
 {
     let rows = trades.rows();
@@ -64,7 +64,7 @@ fn part_figures<M: MarginModel>(
     benchmark: Benchmark,
     trades: StandingTrades,
 ) -> BenchmarkFigures
-    ensures value { result ≡ part_of (meaning model.now) market.now.state benchmark trades.entry.trades.now }
+    ensures value { result ≡ part_of (M.meaning model.now) market.now.state benchmark trades.entry.trades.now }
     ensures bound { Bounded result (many market.now.state benchmark trades.entry.trades.now) }
 {
     let mut room = [NO_TRADE; 64];
@@ -121,7 +121,7 @@ fn family_figures<M: MarginModel>(
     trades: StandingTrades,
 ) -> FamilyFigures
     ensures levels { (result.levels.initial ≤ 2) × (result.levels.gross ≤ 2) }
-    ensures value { result ≡ family_of (meaning model.now) market.now.state family levels trades.entry.trades.now }
+    ensures value { result ≡ family_of (M.meaning model.now) market.now.state family levels trades.entry.trades.now }
     ensures obligation { result.obligation ≤ 34400000000000 * (many market.now.state (first_benchmark family) trades.entry.trades.now + many market.now.state (second_benchmark family) trades.entry.trades.now) }
     ensures credit { result.credit ≤ 20000000000000 * (many market.now.state (first_benchmark family) trades.entry.trades.now + many market.now.state (second_benchmark family) trades.entry.trades.now) }
 {
@@ -138,7 +138,7 @@ pub fn figures<M: MarginModel>(
     trades: StandingTrades,
 ) -> Figures
     ensures levels { (result.overnight.levels.initial ≤ 2) × ((result.overnight.levels.gross ≤ 2) × ((result.forward.levels.initial ≤ 2) × (result.forward.levels.gross ≤ 2))) }
-    ensures value { result ≡ figures_of (meaning model.now) market.now.state account.now.row trades.entry.trades.now }
+    ensures value { result ≡ figures_of (M.meaning model.now) market.now.state account.now.row trades.entry.trades.now }
     ensures obligation { result.obligation ≤ 3000000000000000 }
     ensures available { result.available ≤ 3000000000000000 }
     ensures shortfall { result.shortfall ≤ 3000000000000000 }

@@ -18,8 +18,8 @@ use tables::standing::StandingTrades;
 fn work_out<M: MarginModel>(model: &M, day: Day, percent: u32, trades: &[TradeRow]) -> RiskFigures
     requires trades { Standing trades.now }
     requires percent { percent ≤ 100 }
-    ensures value { result ≡ risk_of (meaning model.now) day percent trades.now }
-    ensures words { AtRisk (meaning model.now) day trades.now result.whole }
+    ensures value { result ≡ risk_of (M.meaning model.now) day percent trades.now }
+    ensures words { AtRisk (M.meaning model.now) day trades.now result.whole }
     ensures bound { result.initial ≤ 4800000000000 * length trades.now }
 {
     let residuals = sum_group_risks(model, day, Grouping::ByResidual, trades);
@@ -43,8 +43,8 @@ pub fn risk_figures<M: MarginModel>(
     market: &Market,
     trades: StandingTrades,
 ) -> RiskFigures
-    ensures value { result ≡ risk_of (meaning model.now) market.now.state.day market.now.state.percent trades.entry.trades.now }
-    ensures words { AtRisk (meaning model.now) market.now.state.day trades.entry.trades.now result.whole }
+    ensures value { result ≡ risk_of (M.meaning model.now) market.now.state.day market.now.state.percent trades.entry.trades.now }
+    ensures words { AtRisk (M.meaning model.now) market.now.state.day trades.entry.trades.now result.whole }
     ensures bound { result.initial ≤ 4800000000000 * length trades.entry.trades.now }
 {
     let state = market.state();

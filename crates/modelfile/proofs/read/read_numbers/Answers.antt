@@ -3,16 +3,16 @@ use Rattle.modelfile.specs.Kinds.{kind_of}
 use Rattle.modelfile.proofs.Forms.{nameless, named_is, no_sets, no_scenarios, with_counts, fits_are, counts_good, counts_wrong, read_same, sizes_same}
 use Rattle.modelfile.proofs.read.read_numbers.Goals as goal
 
-pub returns-in-default : goal.returns-in-default
-returns-in-default c = nameless c.args.scan.now.rest.now (sym (c.in-default.ensures ∙ ap kind_of c.word.ensures.value))
+pub returns-in_default : goal.returns-in_default
+returns-in_default c = nameless c.args.scan.now.rest.now (sym (c.in_default.ensures ∙ ap kind_of c.word.ensures.value))
 
-pub returns-in-default-next_count : goal.returns-in-default-next_count
-returns-in-default-next_count c =
+pub returns-in_default-next_count : goal.returns-in_default-next_count
+returns-in_default-next_count c =
     named_is c.args.scan.now.rest.now c.word.new.self.rest.now c.in-Some.kind (sym (c.in-Some.ensures ∙ ap kind_of c.word.ensures.value)) c.word.ensures.after
-    ∙ no_sets c.in-Some.kind c.word.new.self.rest.now (sym c.in-default-next_count.ensures.value)
+    ∙ no_sets c.in-Some.kind c.word.new.self.rest.now (sym c.in_default-next_count.ensures.value)
 
-pub returns-in-default-next_count-2 : goal.returns-in-default-next_count-2
-returns-in-default-next_count-2 c =
+pub returns-in_default-next_count-2 : goal.returns-in_default-next_count-2
+returns-in_default-next_count-2 c =
     named_is c.args.scan.now.rest.now c.word.new.self.rest.now c.in-Some.kind (sym (c.in-Some.ensures ∙ ap kind_of c.word.ensures.value)) c.word.ensures.after
     ∙ no_scenarios c.in-Some.kind c.word.new.self.rest.now c.next_count.new.scan.rest.now c.in-Some-next_count.sets (sym c.in-Some-next_count.ensures.value) c.in-Some-next_count.ensures.after (sym c.in-default-next_count-2.ensures.value)
 

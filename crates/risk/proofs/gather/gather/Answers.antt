@@ -14,12 +14,12 @@ loop-trade-preserved c =
       | then-key w ↦ (
         omega (arith, w.count-is),
         omega arith,
-        simp (w.room_is, w.count-is) (copies p c.args.trades.now c.loop-trade.room c.loop-trade.count c.loop-trade.trade-index no_trade c.loop-trade-test.true (omega (arith, c.requires.trades.few, c.requires.room)) (eq-eqb _ _ (sym c.key.ensures ∙ w.if-key.true)) c.loop-trade.invariant.2),
+        simp (w.room-is, w.count-is) (copies p c.args.trades.now c.loop-trade.room c.loop-trade.count c.loop-trade.trade-index no_trade c.loop-trade-test.true (omega (arith, c.requires.trades.few, c.requires.room)) (eq-eqb _ _ (sym c.key.ensures ∙ w.if-key.true)) c.loop-trade.invariant.2),
       )
       | else-key w ↦ (
         omega (arith, w.count-is),
         omega arith,
-        simp (w.room_is, w.count-is) (skips p c.args.trades.now c.loop-trade.room c.loop-trade.count c.loop-trade.trade-index no_trade c.loop-trade-test.true (ne_eqb _ _ (λ e. w.if-key.false (c.key.ensures ∙ e))) c.loop-trade.invariant.2),
+        simp (w.room-is, w.count-is) (skips p c.args.trades.now c.loop-trade.room c.loop-trade.count c.loop-trade.trade-index no_trade c.loop-trade-test.true (ne_eqb _ _ (λ e. w.if-key.false (c.key.ensures ∙ e))) c.loop-trade.invariant.2),
       )
     ]
 
