@@ -15,7 +15,7 @@ pub loop-trade-preserved : goal.loop-trade-preserved
 loop-trade-preserved g c =
     let sum = c.loop-trade.sum in
     let one = c.mark-sum.result in
-    let sum_is = c.loop-trade.sum_is in
+    let sum_is = c.loop-trade.sum-is in
     let so_far = simp sum_is at c.loop-trade.invariant.1 in
     let small : nat_abs sum ≤ c.loop-trade.trade-index * 20000000000000 = simp sum_is at c.loop-trade.invariant.2 in
     let size : nat_abs (sum +ℤ one) ≤ (c.loop-trade.trade-index + 1) * 20000000000000 = omega (arith, size_add sum one, c.mark-sum.ensures.bound) in

@@ -14,7 +14,7 @@ returns-in_default-next_count c =
 pub returns-in_default-next_count-2 : goal.returns-in_default-next_count-2
 returns-in_default-next_count-2 c =
     named_is c.args.scan.now.rest.now c.word.new.self.rest.now c.in-Some.kind (sym (c.in-Some.ensures ∙ ap kind_of c.word.ensures.value)) c.word.ensures.after
-    ∙ no_scenarios c.in-Some.kind c.word.new.self.rest.now c.next_count.new.scan.rest.now c.in-Some-next_count.sets (sym c.in-Some-next_count.ensures.value) c.in-Some-next_count.ensures.after (sym c.in-default-next_count-2.ensures.value)
+    ∙ no_scenarios c.in-Some.kind c.word.new.self.rest.now c.next_count.new.scan.rest.now c.in-Some-next_count.sets (sym c.in-Some-next_count.ensures.value) c.in-Some-next_count.ensures.after (sym c.in_default-next_count-2.ensures.value)
 
 pub returns-then-not-counts_fit : goal.returns-then-not-counts_fit
 returns-then-not-counts_fit c =
