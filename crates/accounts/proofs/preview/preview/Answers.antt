@@ -14,7 +14,7 @@ settle_places-tried-requires g c =
     let long : length c.places-room.result ≡ 64 = search rules in
     let row = c.row-row.ensures in
     let places = ap (λ (r : AccountRow). places_keep r.trades c.places-room.result) row.row ∙ c.places-room.ensures.keeps in
-    let before : first_no (asked_before k b c.args.call) ≡ Ok tt = sym c.ask_before.ensures ∙ c.in-ok-ask_before.was in
+    let before : first_no (asked_before k b c.args.call) ≡ Ok tt = sym c.ask_before.ensures ∙ c.in_ok-ask_before.was in
     let d = changed_book k b c.args.call row.keeps long places before c.change-changed.result c.change-changed.new.room c.change-changed.ensures in
     (d.holdings, (d.long, d.places))
 
@@ -26,7 +26,7 @@ new-requires g c =
     let long : length c.places-room.result ≡ 64 = search rules in
     let row = c.row-row.ensures in
     let places = ap (λ (r : AccountRow). places_keep r.trades c.places-room.result) row.row ∙ c.places-room.ensures.keeps in
-    let before : first_no (asked_before k b c.args.call) ≡ Ok tt = sym c.ask_before.ensures ∙ c.in-ok-ask_before.was in
+    let before : first_no (asked_before k b c.args.call) ≡ Ok tt = sym c.ask_before.ensures ∙ c.in_ok-ask_before.was in
     let d = changed_book k b c.args.call row.keeps long places before c.change-changed.result c.change-changed.new.room c.change-changed.ensures in
     let t = c.settle_places-tried.ensures in (
       t.keeps,

@@ -9,7 +9,7 @@ use Rattle.eventrun.proofs.calls.calls_in.Goals as goal
 pub loop-i-preserved : goal.loop-i-preserved
 loop-i-preserved c =
     calls_more c.args.records.now c.loop-i.i (Open 0 0) (vec_items c.loop-i.calls) (vec_items c.push_call.new.calls)
-    (calls_in c.args.records.now) c.loop-i-test.true c.in-ok-push_call.ensures c.loop-i.invariant
+    (calls_in c.args.records.now) c.loop-i-test.true c.in_ok-push_call.ensures c.loop-i.invariant
 
 pub returns : goal.returns
 returns c =

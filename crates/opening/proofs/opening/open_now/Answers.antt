@@ -7,7 +7,7 @@ use Rattle.opening.proofs.opening.open_now.Goals as goal
 pub invariant_of-house : goal.invariant_of-house
 invariant_of-house c =
     let a = allowed c.args.accounts c.args.month c.args.records.now c.args.trades.now c.requires in
-    (a.some, (a.few, tt))
+    record { some = a.some; few = a.few }
 
 pub returns : goal.returns
 returns c =

@@ -2,13 +2,13 @@ use Rattle.std.proofs.Common.{rules}
 use Rattle.script.specs.Commands.{whole_of}
 use Rattle.script.proofs.parse.read_all.Goals as goal
 
-pub returns-in-default : goal.returns-in-default
+pub returns-in_default : goal.returns-in_default
 unfolding whole_of
-returns-in-default c = search rules
+returns-in_default c = search rules
 
-pub returns-in-err-found : goal.returns-in-err-found
+pub returns-in_err-found : goal.returns-in_err-found
 unfolding whole_of
-returns-in-err-found c = search rules
+returns-in_err-found c = search rules
 
 pub returns-then-is_empty : goal.returns-then-is_empty
 unfolding whole_of
