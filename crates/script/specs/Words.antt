@@ -22,7 +22,7 @@ collateral_words =
 
 abbrev pub market_words : List Written
 market_words =
-    (codes "set", Set) ∷ (codes "price", Price) ∷ (codes "step_up", StepUp) ∷ (codes "averages", Averages)
+    (codes "set", Set) ∷ (codes "price", Price) ∷ (codes "step-up", StepUp) ∷ (codes "averages", Averages)
     ∷ (codes "thresholds", Thresholds) ∷ (codes "check", Check) ∷ (codes "close", Close) ∷ (codes "month", Month) ∷ []
 
 abbrev pub session_words : List Written
