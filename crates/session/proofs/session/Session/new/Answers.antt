@@ -10,6 +10,6 @@ returns-in_err-model c = IfOk-from_err c.from_residual-in_err-model.result _ c.f
 pub returns : goal.returns
 returns c =
     same_parts _ _ _ _ _ _ _ _ _ _ c.unopened.ensures.accounts c.unopened.ensures.market
-    (c.in_ok-records.ensures.items-if-clones-equal (λ y e. e) ∙ ap (λ (r : AccountRow). replicate 1 r) c.empty_row.ensures)
-    (c.in_ok-trades.ensures.items-if-clones-equal (λ y e. e))
+    (c.in_ok-records.ensures.items_if_clones_equal (λ y e. e) ∙ ap (λ (r : AccountRow). replicate 1 r) c.empty_row.ensures)
+    (c.in_ok-trades.ensures.items_if_clones_equal (λ y e. e))
     c.in_ok-model.ensures
