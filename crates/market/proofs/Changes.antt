@@ -24,7 +24,7 @@ use Rattle.market.specs.Calls.{with_family, with_averages, with_thresholds, chec
 record FamilyParts (f : FamilyState) : Type 0 where
   volatility : leb f.volatility 1000 ≡ true
   slot : leb f.slot 4 ≡ true
-  checks : leb f.checks f.slot ≡ true
+  checks : leb f.checks 4 ≡ true
   averages : averages_keep f.averages ≡ true
   thresholds : thresholds_keep f.thresholds ≡ true
 
@@ -32,7 +32,7 @@ family_parts : (f : FamilyState) → family_keeps f ≡ true → FamilyParts f
 family_parts f h =
     let a = and_parts (leb f.volatility 1000) _ h in
     let b = and_parts (leb f.slot 4) _ a.1 in
-    let c = and_parts (leb f.checks f.slot) _ b.1 in
+    let c = and_parts (leb f.checks 4) _ b.1 in
     let d = and_parts (averages_keep f.averages) (thresholds_keep f.thresholds) c.1 in
     record { volatility = a.0; slot = b.0; checks = c.0; averages = d.0; thresholds = d.1 }
 
@@ -94,13 +94,11 @@ checked_kept (Some t) slot rs f h e =
     let p = family_parts f h in
     let a = and_parts (leb 1 slot) (leb slot 4 && ltb f.slot slot) e in
     let b = and_parts (leb slot 4) (ltb f.slot slot) a.1 in
-    let above : f.slot < slot = ltb-true _ _ b.1 in
-    let few : f.checks ≤ f.slot = leb-true _ _ p.checks in
     let old : f.volatility ≤ 1000 = leb-true _ _ p.volatility in
     family_from (checked_by (Some t) slot rs f) (record {
       volatility = le-leb (max f.volatility (charged t.triggers rs)) 1000 (omega (arith, charged_most t.triggers rs));
       slot = b.0;
-      checks = le-leb (f.checks + 1) slot (omega arith);
+      checks = le-leb (min (f.checks + 1) 4) 4 (omega arith);
       averages = p.averages;
       thresholds = p.thresholds;
     })
@@ -162,9 +160,7 @@ changeable sets k (Thresholds family t) h e = refl
 changeable sets k (Volatility c) h e =
     let f = family_state k (family_of c.family) in
     let p = family_parts f (family_kept k (family_of c.family) h) in
-    let few : f.checks ≤ f.slot = leb-true _ _ p.checks in
-    let low : f.slot ≤ 4 = leb-true _ _ p.slot in
     let a = and_parts (leb 1 c.slot) (leb c.slot 4 && ltb f.slot c.slot) (all_yes (market_questions sets k (Volatility c)) e).1.1.1.0 in
-    and_from _ _ (and_parts (leb c.slot 4) (ltb f.slot c.slot) a.1).0 (le-leb f.checks 4 (omega arith))
+    and_from _ _ (and_parts (leb c.slot 4) (ltb f.slot c.slot) a.1).0 p.checks
 changeable sets k Close h e = refl
 changeable sets k (Month month) h e = refl

@@ -4,7 +4,7 @@
 -- calm_returns: every return is below its calm mark. checked: a family after a volatility check. closed_family: a family after the day.
 -- market_questions: the questions of a call in their order; `sets` is how many sets the call's model has.
 -- market_changed: the market state after an accepted call. can_change: the change can be made as it stands.
-use Rattle.std.specs.Prelude.{ℕ, ◌+◌, max, Bool, true, false, cond, ◌&&◌, List, [], ◌∷◌, set, Some, None, Option, ◌==◌, nat_le, nat_lt, slice_index, slice_set}
+use Rattle.std.specs.Prelude.{ℕ, ◌+◌, min, max, Bool, true, false, cond, ◌&&◌, List, [], ◌∷◌, set, Some, None, Option, ◌==◌, nat_le, nat_lt, slice_index, slice_set}
 use Rattle.refusals.specs.declared.refusal.Refusal.TheVariants.{NoSecurity, NoSet, WrongPrice, WrongStepUp, NoFamily, WrongAverages, WrongThresholds, WrongReturns, NoThresholds, WrongSlot, WrongMonth}
 use Rattle.refusals.specs.Refusals.{Question}
 use Rattle.tables.specs.declared.codes.Family.{Family}
@@ -115,7 +115,7 @@ calm_returns marks rs =
 -- the per cent replaces a smaller one in force, the slot counts as checked, and calm is judged by the marks now in force
 abbrev pub checked_by : Option Marks → ℕ → List ℕ → FamilyState → FamilyState
 checked_by None slot rs f = f
-checked_by (Some t) slot rs f = record { volatility = max f.volatility (charged t.triggers rs); averages = f.averages; thresholds = f.thresholds; slot = slot; checks = f.checks + 1; calm = f.calm && calm_returns t.calm rs }
+checked_by (Some t) slot rs f = record { volatility = max f.volatility (charged t.triggers rs); averages = f.averages; thresholds = f.thresholds; slot = slot; checks = min (f.checks + 1) 4; calm = f.calm && calm_returns t.calm rs }
 
 abbrev pub checked : ℕ → List ℕ → FamilyState → FamilyState
 checked slot rs f = checked_by f.thresholds slot rs f

@@ -37,11 +37,10 @@ abbrev pub thresholds_keep : Option Thresholds → Bool
 thresholds_keep None = true
 thresholds_keep (Some t) = marks_keep t.triggers t.calm
 
--- a slot is checked once, so there are no more checks than slots
 abbrev pub family_keeps : FamilyState → Bool
 family_keeps f =
     nat_le f.volatility 1000
-    && (nat_le f.slot 4 && (nat_le f.checks f.slot && (averages_keep f.averages && thresholds_keep f.thresholds)))
+    && (nat_le f.slot 4 && (nat_le f.checks 4 && (averages_keep f.averages && thresholds_keep f.thresholds)))
 
 abbrev pub market_keeps : MarketState → Bool
 market_keeps k =

@@ -43,7 +43,7 @@ impl FamilyState {
         let calm = stays_calm(self.calm, thresholds.calm, returns);
         self.volatility = self.volatility.max(tenths);
         self.slot = slot as u8;
-        self.checks += 1;
+        self.checks = (self.checks + 1).min(4);
         self.calm = calm;
     }
 }

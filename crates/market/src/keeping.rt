@@ -50,7 +50,7 @@ fn family_keeps(family: &FamilyState) -> bool
 {
     family.volatility <= 1000
         && family.slot <= 4
-        && family.checks <= family.slot
+        && family.checks <= 4
         && averages_keep(family.averages)
         && thresholds_keep(family.thresholds)
 }
