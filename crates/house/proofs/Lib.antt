@@ -6,3 +6,4 @@ pub mod Matured
 pub mod Passes
 pub mod Announced
 pub mod Untouched
+pub mod Runs

@@ -5,7 +5,7 @@ ghost use Rattle.tables.specs.Limits.{holdings_keep, places_keep, tables_keep};
 ghost use Rattle.refusals.specs.Refusals.{number_of};
 ghost use Rattle.rules.specs.Stands.{standing, shortfalls, after_account, rows_of, trades_of, AtRest};
 ghost use Rattle.accounts.specs.Changing.{book_in};
-ghost use Rattle.rules.specs.Outcomes.{answer_of, blank_answer, restriction_of, account_reply, Answered};
+ghost use Rattle.rules.specs.Outcomes.{answer_of, blank_answer, restriction_of, account_outcome, account_reply, OthersLeft};
 
 use super::settle::{constituents, finish_settling, sum_shortfalls};
 use accounts::book::HeldBook;
@@ -135,7 +135,15 @@ pub fn answer_account<M: MarginModel>(
     account: u32,
     call: AccountCall,
 ) -> Answer
-    ensures { Answered (M.meaning model.now) house.now.market.state house.now.accounts records.old records.new trades.old trades.new account call result }
+    ensures answer { result ≡ (account_outcome (M.meaning model.now) house.now.market.state house.now.accounts records.old trades.old account call).answer }
+    ensures rows { records.new ≡ (account_outcome (M.meaning model.now) house.now.market.state house.now.accounts records.old trades.old account call).rows }
+    ensures trades { trades.new ≡ (account_outcome (M.meaning model.now) house.now.market.state house.now.accounts records.old trades.old account call).trades }
+    ensures keeps { tables_keep house.now.accounts records.new trades.new ≡ tables_keep house.now.accounts records.old trades.old }
+    ensures rests { result.number ≡ 0 → AtRest (M.meaning model.now) house.now.market.state records.new trades.new }
+    // As an event of a list of calls.
+    ensures stands { tables_keep house.now.accounts records.old trades.old ≡ true → standing house.now.market.state records.new trades.new ≡ after_account (M.meaning model.now) (standing house.now.market.state records.old trades.old) account call }
+    // Every other account keeps its places, and its record but for the second flag.
+    ensures others { OthersLeft house.now.accounts records.old records.new trades.old trades.new account result }
 {
     if !tables_keep(house.accounts, records, trades) {
         return refused(Refusal::Tables);

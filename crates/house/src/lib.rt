@@ -2,6 +2,7 @@
 #![tactic(auto)]
 
 pub mod account;
+pub mod listing;
 pub mod market;
 mod maturing;
 mod settle;

@@ -7,3 +7,4 @@ pub mod Outcomes
 pub mod Opening
 pub mod MarketCalls
 pub mod Calls
+pub mod Runs

@@ -1,7 +1,7 @@
 -- What an account call answers, and what any account call makes of any tables.
 -- restriction_of: 0 none, 1 own, 2 second, 3 both. answer_of: an answer with the figures of a record.
 -- blank_answer: an answer without figures, after refusals 1 and 2.
--- Answered: all that a public account call promises.
+-- OthersLeft: what a call leaves of the accounts that it does not name. Answered: all that a public account call promises.
 -- Outcome, account_outcome: the answer and both tables after a call, whatever tables it brings.
 use Rattle.std.specs.Prelude.{◌≡◌, ℕ, suc, ◌+◌, ◌<◌, Bool, true, cond, List, length, get_or, ◌==◌, ◌≢◌, nat_lt, slice_index_or}
 use Rattle.models.specs.Meaning.{Meaning}
@@ -53,6 +53,12 @@ account_outcome m k n rs ts i c =
 abbrev pub left_alone : Bool → Bool → AccountRow → AccountRow
 left_alone accepted restricted r = cond accepted (row_reflagged restricted r) r
 
+-- every constituent but account i keeps its places, and its record but for the second flag
+abbrev pub OthersLeft : ℕ → List AccountRow → List AccountRow → List TradeRow → List TradeRow → ℕ → Answer → Type 0
+OthersLeft n rs us ts vs i a =
+    (j : ℕ) → suc j < n → (suc j ≢ i)
+    → (slice_index_or us (suc j) no_row ≡ left_alone (a.number == 0) (get_or us 0 no_row).own (slice_index_or rs (suc j) no_row)) × (places_at vs (suc j) ≡ places_at ts (suc j))
+
 -- an account call, answered: the answer and both tables after are those of the outcome; the tables keep their limits as before,
 -- and rest after an accepted call; they hold the stand that the rules make of the stand before;
 -- and every constituent that the call does not name keeps its places, and its record but for the second flag
@@ -63,5 +69,4 @@ pub record Answered (m : Meaning) (k : MarketState) (n : ℕ) (rs us : List Acco
   pub keeps : tables_keep n us vs ≡ tables_keep n rs ts
   pub rests : a.number ≡ 0 → AtRest m k us vs
   pub stands : tables_keep n rs ts ≡ true → standing k us vs ≡ after_account m (standing k rs ts) i c
-  pub others : (j : ℕ) → suc j < n → (suc j ≢ i)
-      → (slice_index_or us (suc j) no_row ≡ left_alone (a.number == 0) (get_or us 0 no_row).own (slice_index_or rs (suc j) no_row)) × (places_at vs (suc j) ≡ places_at ts (suc j))
+  pub others : OthersLeft n rs us ts vs i a

@@ -7,6 +7,7 @@ use Rattle.calls.proofs.answer.answer.Goals as goal
 
 pub returns-in-Account : goal.returns-in-Account
 returns-in-Account g c =
+    let e = c.answer_account.ensures in
     let m = g.M.MarginModel.meaning c.args.model.now in
     let k = c.args.house.now.market.state in
     let n = c.args.house.now.accounts in
@@ -15,7 +16,7 @@ returns-in-Account g c =
     record {
       accounts = refl;
       answered = subst (λ (x : Call). AnswersCall m k k n rs c.answer_account.new.records ts c.answer_account.new.trades x (AccountReply c.answer_account.result)) (sym c.in-Account.is)
-          (account_promised m k n rs c.answer_account.new.records ts c.answer_account.new.trades c.in-Account.named c.answer_account.result c.answer_account.ensures);
+          (account_promised m k n rs c.answer_account.new.records ts c.answer_account.new.trades c.in-Account.named c.answer_account.result (record { answer = e.answer; rows = e.rows; trades = e.trades; keeps = e.keeps; rests = e.rests; stands = e.stands; others = e.others }));
     }
 
 pub returns-in-Market : goal.returns-in-Market

@@ -1,0 +1,33 @@
+// A list of account calls, answered one after the other.
+ghost use Rattle.std.specs.Prelude.{◌≡◌, ◌≤◌, min, length, take, drop};
+ghost use Rattle.rules.specs.Runs.{lent_run, answers_run};
+
+use super::account::answer_account;
+use models::model::MarginModel;
+use rules::call::{Answer, NamedCall};
+use rules::house::House;
+use tables::row::{AccountRow, TradeRow};
+
+// Answers the calls in turn, as many as there is room for. Gives how many they are.
+pub fn answer_all<M: MarginModel>(
+    house: &House,
+    model: &M,
+    records: &mut [AccountRow],
+    trades: &mut [TradeRow],
+    calls: &[NamedCall],
+    answers: &mut [Answer],
+) -> usize
+    ensures count { result ≡ min (length calls.now) (length answers.old) }
+    ensures answers { take result answers.new ≡ answers_run (M.meaning model.now) house.now.market.state house.now.accounts (records.old, trades.old) (take result calls.now) }
+    ensures rest { drop result answers.new ≡ drop result answers.old }
+    ensures rows { records.new ≡ (lent_run (M.meaning model.now) house.now.market.state house.now.accounts (records.old, trades.old) (take result calls.now)).0 }
+    ensures trades { trades.new ≡ (lent_run (M.meaning model.now) house.now.market.state house.now.accounts (records.old, trades.old) (take result calls.now)).1 }
+{
+    let count = calls.len().min(answers.len());
+    for i in 0..count {
+        let next = calls[i];
+        let said = answer_account(house, model, records, trades, next.account, next.call);
+        answers[i] = said;
+    }
+    count
+}
