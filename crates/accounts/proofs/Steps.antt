@@ -1,9 +1,9 @@
 -- An account call whose questions are answered yes can be made, and leaves a book within its limits.
-use Rattle.std.proofs.Common.{◌≡◌, ℕ, zero, suc, ◌+◌, ◌-◌, ◌<◌, ◌≤◌, Bool, true, false, not, ◌&&◌, ltb, leb, List, [], ◌∷◌, ◌++◌, length, get_or, take, drop, set, Ok, sym, refl, ap, ◌∙◌, subst, arith, length-append, length-drop, length-set, take-append-drop, length-take, length-take-le, drop-cons, take_at, drop_at}
-use Rattle.std.specs.List.{remove, prefix_len, AllByRecursion as All}
+use Rattle.std.proofs.Common.{◌≡◌, ℕ, zero, suc, ◌+◌, ◌-◌, ◌<◌, ◌≤◌, Bool, true, ◌&&◌, ltb, leb, List, [], ◌∷◌, ◌++◌, length, get_or, take, drop, set, Ok, sym, refl, ap, ◌∙◌, arith, length-append, length-set, take-append-drop, length-take, length-take-le, take_at, drop_at}
+use Rattle.std.specs.List.{remove}
 use Rattle.std.proofs.lemmas.List.{take_more_set, drop-set-lt, drop-drop, append_assoc}
 use Rattle.std.proofs.lemmas.List.Edits.{length-remove}
-use Rattle.std.proofs.lemmas.Bool.{and_parts, and_from, leb-true, le-leb, ltb-true, lt-ltb}
+use Rattle.std.proofs.lemmas.Bool.{and_parts, and_from, leb-true, le-leb, ltb-true}
 use Rattle.tables.specs.declared.row.AccountRow.{AccountRow}
 use Rattle.tables.specs.declared.row.TradeRow.{TradeRow}
 use Rattle.tables.specs.Books.{Book, book, standing_of}
@@ -17,7 +17,7 @@ use Rattle.models.specs.Meaning.{Meaning}
 use Rattle.refusals.specs.Refusals.{first_no}
 use Rattle.rules.specs.Settling.{settled_row}
 use Rattle.rules.specs.Rows.{with_cash, with_lots, with_trades}
-use Rattle.rules.specs.Changes.{changed, closed, place_of, holds}
+use Rattle.rules.specs.Changes.{changed, closed, place_of}
 use Rattle.rules.specs.Questions.{asked_before}
 use Rattle.refusals.proofs.Facts.{all_yes}
 use Rattle.accounts.specs.Changing.{can_change}

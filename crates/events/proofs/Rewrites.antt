@@ -8,7 +8,6 @@ use Rattle.events.specs.Record.{event_at}
 use Rattle.events.specs.Encoded.{bytes_2, bytes_4, bytes_8, encoded, Fits}
 use Rattle.events.specs.declared.event.Kind.{Kind}
 use Rattle.events.specs.declared.event.Kind.TheVariants as kinds
-use Rattle.events.specs.declared.event.Event.TheVariants.{Open, Trade, LodgeCash, DrawCash}
 
 cut_2 : (x y : ℕ) → x < 256 → y < 256 → ((x + 256 * y) % 256 ≡ x) × ((x + 256 * y) / 256 % 256 ≡ y)
 cut_2 x y a b = (omega arith, omega arith)

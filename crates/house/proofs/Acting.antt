@@ -1,5 +1,5 @@
 -- An account call on the tables, and by the rules.
-use Rattle.std.proofs.Common.{◌≡◌, ℕ, zero, suc, ◌+◌, ◌-◌, ◌*◌, ◌<◌, ◌≤◌, Bool, true, false, cond, eqb, ltb, List, [], ◌∷◌, map, length, get_or, take, drop, set, sym, refl, ap, ◌∙◌, subst, ap₂, arith, length-drop, length-set}
+use Rattle.std.proofs.Common.{◌≡◌, ℕ, zero, suc, ◌*◌, ◌<◌, ◌≤◌, true, false, cond, eqb, ltb, List, map, length, get_or, drop, set, sym, ap, ◌∙◌, arith, length-drop, length-set}
 use lib.ListN.{length-map}
 use Rattle.std.proofs.lemmas.List.{get_or-map}
 use Rattle.std.proofs.lemmas.Bool.{lt-ltb, le-ltb, ne_eqb, cond-true, cond-false}
@@ -12,13 +12,12 @@ use Rattle.tables.proofs.Books.{Kept, kept, most_of, length_books, book_at, book
 use Rattle.tables.proofs.Facts.{booked_from, figured_from}
 use Rattle.market.specs.declared.state.MarketState.{MarketState}
 use Rattle.rules.specs.declared.call.AccountCall.{AccountCall}
-use Rattle.rules.specs.declared.call.Answer.{Answer}
 use Rattle.refusals.specs.declared.refusal.Refusal.{Refusal}
 use Rattle.refusals.specs.declared.refusal.Refusal.TheVariants.{NoAccount}
 use Rattle.refusals.specs.Refusals.{number_of}
 use Rattle.rules.specs.Settling.{reflagged}
 use Rattle.rules.specs.Stands.{Stand, Verdict, refused, granted, standing, stand_of, books_in, rows_of, trades_of, shortfalls, ordered, finish, verdict, concluded, after_account}
-use Rattle.rules.specs.Outcomes.{Outcome, answer_of, blank_answer, verdict_number, account_reply, account_outcome}
+use Rattle.rules.specs.Outcomes.{answer_of, blank_answer, verdict_number, account_reply, account_outcome}
 use Rattle.accounts.specs.declared.book.HeldBook.{HeldBook}
 use Rattle.accounts.specs.Changing.{book_in, Within}
 use Rattle.house.proofs.Finishing.{trades_finished}

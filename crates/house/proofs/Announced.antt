@@ -1,6 +1,5 @@
 -- A market call on the tables, and by the rules.
-use Rattle.std.proofs.Common.{◌≡◌, ℕ, ◌*◌, ◌≤◌, true, List, [], ◌∷◌, map, length, get_or, drop, None, Ok, Err, Option, Result, sym, refl, ap, ◌∙◌, ap₂, arith}
-use Rattle.std.proofs.lemmas.Bool.{cond-true}
+use Rattle.std.proofs.Common.{◌≡◌, ℕ, ◌≤◌, true, List, [], ◌∷◌, map, length, get_or, drop, None, Ok, Err, Option, Result, sym, refl, ap, ◌∙◌, ap₂, arith}
 use Rattle.models.specs.Meaning.{Meaning}
 use Rattle.refusals.specs.declared.refusal.Refusal.{Refusal}
 use Rattle.refusals.specs.Refusals.{first_no, decided, number_of, result_number}
@@ -14,7 +13,7 @@ use Rattle.market.specs.declared.state.MarketState.{MarketState}
 use Rattle.market.specs.Calls.{market_questions, market_changed}
 use Rattle.rules.specs.Settling.{settled}
 use Rattle.rules.specs.Stands.{Stand, standing, stand_of, finish, rows_of, trades_of}
-use Rattle.rules.specs.MarketCalls.{aged, aged_by, all_settled, after_market, market_answer, market_reply, market_outcome}
+use Rattle.rules.specs.MarketCalls.{aged, aged_by, all_settled, after_market, market_answer, market_reply}
 use Rattle.house.proofs.Finishing.{trades_finished}
 use Rattle.house.proofs.Resting.{standing_finished}
 use Rattle.house.proofs.Lent.{rows_stand, trades_stand}

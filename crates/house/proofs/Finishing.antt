@@ -1,5 +1,5 @@
 -- What the tables hold when they are settled is what the rules make of the stand that they held.
-use Rattle.std.proofs.Common.{◌≡◌, ℕ, zero, suc, ◌+◌, ◌-◌, ◌*◌, ◌<◌, ◌≤◌, Bool, true, false, List, [], ◌∷◌, ◌++◌, map, length, get_or, take, drop, set, fold, sum_by, sym, refl, ap, ◌∙◌, subst, ap₂, append-nil, arith, take_all}
+use Rattle.std.proofs.Common.{◌≡◌, ℕ, suc, ◌+◌, ◌-◌, ◌*◌, ◌≤◌, Bool, true, false, List, [], ◌∷◌, ◌++◌, map, length, get_or, take, drop, set, fold, sum_by, sym, refl, ap, ◌∙◌, ap₂, append-nil, arith, take_all}
 use lib.ListN.{length-map}
 use borrow.Rule.Slice.PartMut.{put_mid}
 use Rattle.std.specs.List.{AllByRecursion as All}
@@ -7,16 +7,16 @@ use Rattle.std.proofs.lemmas.List.{drop_all}
 use Rattle.models.specs.Meaning.{Meaning}
 use Rattle.tables.specs.declared.row.AccountRow.{AccountRow}
 use Rattle.tables.specs.declared.row.TradeRow.{TradeRow}
-use Rattle.tables.specs.Books.{Book, book, books_of, no_book, no_row, places_at, rows_in, places_in}
-use Rattle.tables.specs.Limits.{holdings_keep, figures_keep, places_keep, book_keeps, house_keeps, constituent_keeps, tables_keep}
+use Rattle.tables.specs.Books.{Book, book, books_of, no_row, places_at, rows_in, places_in}
+use Rattle.tables.specs.Limits.{holdings_keep, figures_keep, places_keep, constituent_keeps, tables_keep}
 use Rattle.tables.specs.Lists.{all_by}
 use Rattle.tables.proofs.Alls.{all_by_map, all_from}
-use Rattle.tables.proofs.Books.{Kept, kept, keeps_from, rows_back, places_back}
+use Rattle.tables.proofs.Books.{kept, keeps_from, places_back}
 use Rattle.tables.proofs.Facts.{booked, booked_from, figured}
 use Rattle.market.specs.declared.state.MarketState.{MarketState}
 use Rattle.rules.specs.Rows.{with_second}
 use Rattle.rules.specs.Settling.{settled_row, house_settled, row_reflagged, reflagged}
-use Rattle.rules.specs.Stands.{Stand, standing, stand_of, finish, flagged_by, rows_of, trades_of, shortfalls}
+use Rattle.rules.specs.Stands.{standing, finish, rows_of, trades_of, shortfalls}
 
 -- the cover, out of the records
 sum_books : (cs : List AccountRow) (us : List TradeRow) (n : ℕ) → fold (λ (x : ℕ) (r : AccountRow). x + r.shortfall) n cs ≡ fold (λ (x : ℕ) (b : Book). x + b.row.shortfall) n (books_of cs us)

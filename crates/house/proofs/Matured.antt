@@ -1,18 +1,17 @@
 -- A book without its matured trades: it is what the code leaves, and within its limits.
-use Rattle.std.proofs.Common.{◌≡◌, ℕ, ◌+◌, ◌-◌, ◌≤◌, Bool, true, not, ◌&&◌, leb, List, ◌++◌, length, take, drop, replicate, filter, sym, refl, ap, ◌∙◌, ap₂, arith, length-append, length-drop, length-take, length-take-le, take_at, drop_at}
+use Rattle.std.proofs.Common.{◌≡◌, ℕ, ◌-◌, ◌≤◌, true, not, ◌&&◌, leb, List, ◌++◌, length, take, drop, replicate, filter, sym, refl, ap, ◌∙◌, ap₂, arith, length-append, length-drop, length-take, length-take-le, take_at, drop_at}
 use borrow.Rule.Slice.PartMut.{put_mid}
 use lib.ListN.{length-replicate}
 use lib.Seq.{take-append-le}
 use Rattle.std.proofs.lemmas.List.Filters.{length-filter_both}
-use Rattle.std.proofs.lemmas.Bool.{and_parts, and_from, leb-true, le-leb}
+use Rattle.std.proofs.lemmas.Bool.{and_parts, and_from, le-leb}
 use Rattle.tables.specs.declared.row.TradeRow.{TradeRow}
 use Rattle.tables.specs.Books.{Book, standing_of}
 use Rattle.tables.specs.Limits.{trade_keeps, is_empty, no_trade, places_keep, book_keeps}
 use Rattle.tables.specs.Lists.{all_by}
 use Rattle.tables.proofs.Alls.{all_by_kept, all_by_replicate}
-use Rattle.tables.proofs.Facts.{Booked, booked, booked_from, held}
+use Rattle.tables.proofs.Facts.{booked, booked_from}
 use Rattle.accounts.proofs.Steps.{held_trades}
-use Rattle.rules.specs.Rows.{with_trades}
 use Rattle.rules.specs.MarketCalls.{running, closed_up, matured_out}
 
 -- no more trades are left than stood

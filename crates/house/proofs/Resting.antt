@@ -1,5 +1,5 @@
 -- Tables that are settled rest: settling once more changes nothing.
-use Rattle.std.proofs.Common.{◌≡◌, ℕ, ◌≤◌, List, [], ◌∷◌, length, take, drop, sym, ap, ◌∙◌, arith}
+use Rattle.std.proofs.Common.{◌≡◌, ◌≤◌, List, [], ◌∷◌, length, take, drop, sym, ap, ◌∙◌, arith}
 use Rattle.models.specs.Meaning.{Meaning}
 use Rattle.tables.specs.declared.row.AccountRow.{AccountRow}
 use Rattle.tables.specs.declared.row.TradeRow.{TradeRow}

@@ -1,5 +1,5 @@
 -- What an account call leaves in the tables of the constituents that it does not name.
-use Rattle.std.proofs.Common.{◌≡◌, ℕ, suc, ◌<◌, ◌≤◌, Bool, true, false, cond, eqb, List, length, get_or, sym, refl, ap, ◌∙◌, ap₂, arith, length-drop}
+use Rattle.std.proofs.Common.{◌≡◌, ℕ, suc, ◌<◌, ◌≤◌, Bool, true, false, eqb, List, get_or, sym, refl, ap, ◌∙◌, ap₂, arith, length-drop}
 use Rattle.models.specs.Meaning.{Meaning}
 use Rattle.tables.specs.declared.row.AccountRow.{AccountRow}
 use Rattle.tables.specs.declared.row.TradeRow.{TradeRow}
@@ -9,8 +9,7 @@ use Rattle.tables.proofs.Books.{kept, book_at, length_books}
 use Rattle.market.specs.declared.state.MarketState.{MarketState}
 use Rattle.rules.specs.declared.call.AccountCall.{AccountCall}
 use Rattle.rules.specs.declared.call.Answer.{Answer}
-use Rattle.rules.specs.Settling.{row_reflagged}
-use Rattle.rules.specs.Stands.{Stand, standing, books_in, after_account}
+use Rattle.rules.specs.Stands.{Stand, standing, after_account}
 use Rattle.rules.specs.Outcomes.{account_reply, left_alone}
 use Rattle.isolation.specs.Isolation.{book_of}
 use Rattle.isolation.proofs.Others.{left_book, others_left}

@@ -1,5 +1,5 @@
 -- A constituent's view goes by what the constituent is told.
-use Rattle.std.proofs.Common.{◌≡◌, ℕ, zero, suc, ◌<◌, ◌≤◌, Bool, true, false, cond, eqb, ◌⊎◌, List, [], ◌∷◌, map, length, get_or, set, Ok, Err, Result, sym, refl, ap, ◌∙◌, subst, ap₂, inl, inr, true≢false, arith, length-set, get_or-set_other, get_or-set_same}
+use Rattle.std.proofs.Common.{◌≡◌, ℕ, zero, suc, ◌<◌, ◌≤◌, Bool, true, false, ◌⊎◌, map, length, get_or, set, Ok, Err, Result, sym, refl, ap, ◌∙◌, subst, inl, inr, true≢false, length-set, get_or-set_other, get_or-set_same}
 use mathlib.Core.Bool.{beq}
 use lib.ListN.{length-map}
 use Rattle.std.proofs.lemmas.List.{get_or-map}
@@ -13,8 +13,6 @@ use Rattle.market.specs.declared.call.MarketCall.{MarketCall}
 use Rattle.market.specs.declared.state.MarketState.{MarketState}
 use Rattle.market.specs.Calls.{market_questions, market_changed}
 use Rattle.rules.specs.declared.call.AccountCall.{AccountCall}
-use Rattle.rules.specs.declared.call.Answer.{Answer}
-use Rattle.rules.specs.declared.call.Call.{Call}
 use Rattle.rules.specs.declared.call.Call.TheVariants.{Account, Market}
 use Rattle.rules.specs.declared.call.Event.{Event}
 use Rattle.rules.specs.declared.call.Event.TheVariants.{RightTables, WrongTables}
@@ -24,7 +22,7 @@ use Rattle.rules.specs.Settling.{settled, reflagged}
 use Rattle.rules.specs.Stands.{Stand, Verdict, refused, granted, ordered, finish, after_account}
 use Rattle.rules.specs.Outcomes.{answer_of, blank_answer, verdict_number, account_reply}
 use Rattle.rules.specs.MarketCalls.{aged, market_answer}
-use Rattle.isolation.specs.Runs.{after, reply, run}
+use Rattle.isolation.specs.Runs.{after, reply}
 use Rattle.isolation.specs.Views.{View, constituent_view, restriction_of_house, concerns}
 use Rattle.isolation.proofs.Steps.{house_after, constituent_after, market_after, house_verdict, constituent_verdict, house_steps, constituent_steps, constituent_replies, absent_steps, Rests, rests_after, length_after}
 use Rattle.isolation.proofs.Unwinding.{Unwound}

@@ -1,5 +1,5 @@
 -- The cover is the sum of what the constituents lack, and the house's obligation carries it.
-use Rattle.std.proofs.Common.{◌≡◌, ℕ, zero, suc, ◌+◌, ◌-◌, ◌<◌, ◌≤◌, Bool, true, false, ◌⊎◌, List, [], ◌∷◌, map, length, get_or, set, Ok, Err, fold, sum_by, Result, sym, refl, ap, ◌∙◌, subst, ap₂, inl, inr}
+use Rattle.std.proofs.Common.{◌≡◌, ℕ, zero, suc, ◌+◌, ◌<◌, ◌≤◌, Bool, false, ◌⊎◌, List, [], ◌∷◌, map, length, get_or, set, Ok, Err, fold, Result, sym, refl, ap, ◌∙◌, subst, inl, inr}
 use Rattle.std.specs.List.{AllByRecursion as All}
 use Rattle.std.proofs.lemmas.Bool.{cases_lt}
 use Rattle.models.specs.Meaning.{Meaning}
@@ -15,10 +15,10 @@ use Rattle.rules.specs.declared.call.Event.{Event}
 use Rattle.rules.specs.declared.call.Event.TheVariants.{RightTables, WrongTables}
 use Rattle.rules.specs.Changes.{changed}
 use Rattle.rules.specs.Settling.{settled_row, settled, reflagged}
-use Rattle.rules.specs.Stands.{Stand, Verdict, refused, granted, cover_of, tried, finish, after_account}
+use Rattle.rules.specs.Stands.{Stand, Verdict, refused, granted, finish, after_account}
 use Rattle.rules.specs.MarketCalls.{aged}
 use Rattle.isolation.specs.Runs.{after, run}
-use Rattle.isolation.specs.Isolation.{lacking, own_margins, Covered}
+use Rattle.isolation.specs.Isolation.{lacking, Covered}
 use Rattle.isolation.proofs.Steps.{house_after, constituent_after, market_after, house_verdict, constituent_verdict, house_steps, constituent_steps, absent_steps, Rests}
 use Rattle.isolation.proofs.Ledgers.{granted_asked}
 

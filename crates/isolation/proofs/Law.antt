@@ -1,21 +1,20 @@
 -- The law, put together.
-use Rattle.std.proofs.Common.{◌≡◌, ℕ, zero, suc, ◌+◌, ◌<◌, ◌≤◌, Bool, eqb, List, [], ◌∷◌, length, get_or, drop, replicate, ℤ, sym, refl, ap, ◌∙◌, subst, ap₂, arith}
+use Rattle.std.proofs.Common.{◌≡◌, ℕ, zero, suc, ◌+◌, ◌<◌, ◌≤◌, Bool, eqb, List, length, get_or, replicate, ℤ, sym, refl, ap, ◌∙◌, subst, arith}
 use mathlib.Core.Path.{fun_ext}
 use mathlib.Core.Bool.{beq}
 use lib.ListN.{length-replicate}
 use Rattle.std.specs.List.{AllByRecursion as All}
 use Rattle.models.specs.Meaning.{Meaning}
-use Rattle.tables.specs.Books.{Book, books_of, no_book}
+use Rattle.tables.specs.Books.{Book, no_book}
 use Rattle.rules.specs.declared.call.Event.{Event}
-use Rattle.rules.specs.declared.call.Reply.{Reply}
-use Rattle.rules.specs.Opening.{empty_row, opened_market, opened_rows, opened_trades}
+use Rattle.rules.specs.Opening.{empty_row, opened_market}
 use Rattle.rules.specs.Stands.{Stand, stand_of, books_in, cover_of}
 use Rattle.rules.proofs.Empty.{empty_book, books_empty, opened_rests}
 use Rattle.isolation.specs.Runs.{run, replies, opened, accepted}
 use Rattle.isolation.specs.Views.{View, constituent_view, house_view, restriction_of_house, constituent_trace, house_trace, observed}
 use Rattle.isolation.specs.Isolation.{Agree, book_of, lacking, drawn_cash, lodged_cash, drawn_lots, lodged_lots, Accounted, Covered, Isolation}
 use Rattle.isolation.proofs.Unwinding.{isolated}
-use Rattle.isolation.proofs.Steps.{Rests, rests_run, length_run}
+use Rattle.isolation.proofs.Steps.{Rests, rests_run}
 use Rattle.isolation.proofs.Constituents.{constituent_unwound}
 use Rattle.isolation.proofs.Houses.{house_unwound}
 use Rattle.isolation.proofs.Ledgers.{ledger_run}

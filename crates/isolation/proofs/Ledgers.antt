@@ -1,11 +1,11 @@
 -- What an account holds is what its accepted calls lodged less what they drew.
-use Rattle.std.proofs.Common.{◌≡◌, ℕ, zero, suc, ◌+◌, ◌-◌, ◌<◌, ◌≤◌, Bool, true, false, cond, eqb, ◌⊎◌, List, [], ◌∷◌, map, length, get_or, set, Some, None, Ok, Err, Option, Result, sym, refl, ap, ◌∙◌, subst, ap₂, inl, inr, arith, length-set, get_or-set_other, get_or-set_same}
+use Rattle.std.proofs.Common.{◌≡◌, ℕ, zero, suc, ◌+◌, ◌<◌, ◌≤◌, Bool, true, false, cond, eqb, ◌⊎◌, List, [], ◌∷◌, map, length, get_or, set, Some, None, Ok, Err, Option, Result, sym, refl, ap, ◌∙◌, subst, ap₂, inl, inr, arith, length-set, get_or-set_other, get_or-set_same}
 use lib.ListN.{length-map}
 use Rattle.std.proofs.lemmas.List.{get_or-map}
-use Rattle.std.proofs.lemmas.Bool.{eqb-true, eqb-false, eq-eqb, ne_eqb, cases_lt, cases_eq, cond-true, cond-false}
+use Rattle.std.proofs.lemmas.Bool.{eq-eqb, ne_eqb, cases_lt, cases_eq, cond-true, cond-false}
 use Rattle.models.specs.Meaning.{Meaning}
 use Rattle.refusals.specs.declared.refusal.Refusal.{Refusal}
-use Rattle.refusals.specs.Refusals.{first_no, decided, number_of, result_number}
+use Rattle.refusals.specs.Refusals.{first_no, decided, number_of}
 use Rattle.refusals.proofs.Facts.{refusal_some}
 use Rattle.tables.specs.Books.{Book, no_book}
 use Rattle.market.specs.declared.call.MarketCall.{MarketCall}
@@ -13,7 +13,6 @@ use Rattle.market.specs.declared.state.MarketState.{MarketState}
 use Rattle.market.specs.Calls.{market_questions, market_changed}
 use Rattle.rules.specs.declared.call.AccountCall.{AccountCall}
 use Rattle.rules.specs.declared.call.Answer.{Answer}
-use Rattle.rules.specs.declared.call.Call.{Call}
 use Rattle.rules.specs.declared.call.Call.TheVariants.{Account, Market}
 use Rattle.rules.specs.declared.call.Event.{Event}
 use Rattle.rules.specs.declared.call.Event.TheVariants.{RightTables, WrongTables}
@@ -22,10 +21,10 @@ use Rattle.rules.specs.Changes.{changed}
 use Rattle.rules.specs.Questions.{asked_before, asked_after}
 use Rattle.rules.specs.Settling.{settled_row, settled, reflagged}
 use Rattle.rules.specs.Stands.{Stand, Verdict, refused, granted, books_in, cover_of, tried, ordered, finish, after_account}
-use Rattle.rules.specs.Outcomes.{verdict_number, answer_of, account_reply}
+use Rattle.rules.specs.Outcomes.{verdict_number, account_reply}
 use Rattle.rules.specs.Calls.{reply_number}
 use Rattle.rules.specs.MarketCalls.{matured_out, aged_by, new_month, aged}
-use Rattle.isolation.specs.Runs.{after, reply, run, replies, moved, moved_by, accepted}
+use Rattle.isolation.specs.Runs.{after, reply, run, replies, moved, accepted}
 use Rattle.isolation.specs.Isolation.{book_of}
 use Rattle.isolation.proofs.Steps.{house_after, constituent_after, market_after, house_verdict, constituent_verdict, house_steps, house_replies, constituent_steps, constituent_replies, absent_steps, length_after}
 

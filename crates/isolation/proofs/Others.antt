@@ -1,5 +1,5 @@
 -- What an account call leaves of the constituents that it does not name.
-use Rattle.std.proofs.Common.{◌≡◌, ℕ, zero, suc, ◌<◌, ◌≤◌, Bool, true, false, cond, eqb, ◌⊎◌, length, get_or, set, sym, refl, ap, ◌∙◌, subst, ap₂, inl, inr, arith, length-set, get_or-set_other}
+use Rattle.std.proofs.Common.{◌≡◌, ℕ, zero, suc, ◌<◌, ◌≤◌, Bool, false, cond, eqb, ◌⊎◌, length, set, sym, ap, ◌∙◌, subst, ap₂, inl, inr, arith, length-set, get_or-set_other}
 use Rattle.std.proofs.lemmas.List.{get_or-map}
 use Rattle.std.proofs.lemmas.Bool.{ne_eqb, le-ltb, cond-false, cases_lt}
 use Rattle.models.specs.Meaning.{Meaning}
@@ -12,7 +12,7 @@ use Rattle.rules.specs.declared.call.AccountCall.{AccountCall}
 use Rattle.rules.specs.declared.call.Answer.{Answer}
 use Rattle.rules.specs.Settling.{reflagged}
 use Rattle.rules.specs.Stands.{Stand, Verdict, refused, granted, books_in, finish, after_account}
-use Rattle.rules.specs.Outcomes.{verdict_number, account_reply, answer_of, blank_answer}
+use Rattle.rules.specs.Outcomes.{verdict_number, account_reply, blank_answer}
 use Rattle.isolation.specs.Isolation.{book_of}
 use Rattle.isolation.proofs.Steps.{house_after, constituent_after, house_verdict, constituent_verdict, house_steps, house_replies, constituent_steps, constituent_replies, absent_steps}
 

@@ -8,18 +8,15 @@ use Rattle.refusals.specs.declared.refusal.Refusal.TheVariants.{NoAccount}
 use Rattle.refusals.specs.Refusals.{first_no, decided, number_of}
 use Rattle.tables.specs.Books.{Book, no_book}
 use Rattle.market.specs.declared.call.MarketCall.{MarketCall}
-use Rattle.market.specs.declared.state.MarketState.{MarketState}
 use Rattle.market.specs.Calls.{market_questions, market_changed}
 use Rattle.rules.specs.declared.call.AccountCall.{AccountCall}
-use Rattle.rules.specs.declared.call.Answer.{Answer}
-use Rattle.rules.specs.declared.call.Call.{Call}
 use Rattle.rules.specs.declared.call.Call.TheVariants.{Account, Market}
 use Rattle.rules.specs.declared.call.Event.{Event}
 use Rattle.rules.specs.declared.call.Event.TheVariants.{RightTables, WrongTables}
 use Rattle.rules.specs.Settling.{settled, reflagged}
-use Rattle.rules.specs.Stands.{Stand, Verdict, refused, granted, books_in, cover_of, cover_for, ordered, finish, verdict, concluded, after_account}
+use Rattle.rules.specs.Stands.{Stand, Verdict, refused, granted, books_in, cover_of, ordered, finish, verdict, concluded, after_account}
 use Rattle.rules.specs.Outcomes.{answer_of, blank_answer, verdict_number, account_reply}
-use Rattle.rules.specs.MarketCalls.{aged, all_settled, after_market}
+use Rattle.rules.specs.MarketCalls.{aged, all_settled}
 use Rattle.rules.proofs.Resting.{finish_rests}
 use Rattle.isolation.specs.Runs.{after, run}
 

@@ -6,7 +6,7 @@ use Rattle.rules.specs.declared.call.Event.{Event}
 use Rattle.rules.specs.declared.call.Reply.{Reply}
 use Rattle.rules.specs.Stands.{Stand}
 use Rattle.isolation.specs.Runs.{after, reply, run, replies}
-use Rattle.isolation.specs.Views.{View, concerns, Told, called, turned, told, trace, observed, own_replies}
+use Rattle.isolation.specs.Views.{View, concerns, Told, called, turned, trace, observed, own_replies}
 
 module _ {B : Type 0} (figure : Stand → B) (same : B → B → Bool) (m : Meaning) (i : ℕ) (view : Stand → View B) where
   -- `says` answers an event that concerns the holder; `by_call` and `by_turn` carry the view on

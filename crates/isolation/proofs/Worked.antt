@@ -1,5 +1,5 @@
 -- The examples, by computation.
-use Rattle.std.proofs.Common.{◌≡◌, refl}
+use Rattle.std.proofs.Common.{refl}
 use Rattle.tables.specs.Numbers.{sum_below}
 use Rattle.risk.specs.Groups.{group_trades}
 use Rattle.risk.specs.Initial.{grouped_risk, minimum_of, risk_of}

@@ -3,7 +3,7 @@
 -- lodged_cash, drawn_cash, lodged_lots, drawn_lots: what a call lodges or draws. lacking: obligation less available, where that is positive.
 -- own_margins: the house's obligation without the cover. Accounted, Covered: what holds of cash, lots and cover.
 -- Isolation: the law, for every list of calls from an accepted opening, on every model that means m.
-use Rattle.std.specs.Prelude.{◌≡◌, ℕ, suc, ◌+◌, ◌-◌, ◌<◌, ◌≤◌, Bool, cond, List, sum_by, ◌==◌, slice_index, slice_index_or}
+use Rattle.std.specs.Prelude.{◌≡◌, ℕ, suc, ◌+◌, ◌-◌, ◌<◌, ◌≤◌, cond, List, sum_by, ◌==◌, slice_index, slice_index_or}
 use Rattle.models.specs.Meaning.{Meaning}
 use Rattle.tables.specs.Books.{Book, no_book, standing_of}
 use Rattle.margins.specs.Figures.{figures_of}
@@ -13,7 +13,7 @@ use Rattle.rules.specs.declared.call.Event.{Event}
 use Rattle.rules.specs.declared.call.Reply.{Reply}
 use Rattle.rules.specs.Stands.{Stand, books_in, cover_of}
 use Rattle.isolation.specs.Runs.{run, replies, opened, accepted}
-use Rattle.isolation.specs.Views.{View, constituent_view, house_view, constituent_trace, house_trace, observed}
+use Rattle.isolation.specs.Views.{constituent_trace, house_trace, observed}
 
 pub record Agree (m l : Meaning) : Type 0 where
   pub sets : m.sets ≡ l.sets

@@ -2,7 +2,7 @@
 -- after, reply: what an event makes of a stand, and what it is answered. run, replies: the same of a list of events.
 -- opened: the stand that an accepted opening with n accounts in a month leaves.
 -- accepted: what the accepted calls of a list move for one account, by some measure of a call.
-use Rattle.std.specs.Prelude.{ℕ, ◌+◌, Bool, cond, List, [], ◌∷◌, ◌==◌}
+use Rattle.std.specs.Prelude.{ℕ, ◌+◌, cond, List, [], ◌∷◌, ◌==◌}
 use Rattle.models.specs.Meaning.{Meaning}
 use Rattle.refusals.specs.declared.refusal.Refusal.TheVariants.{Tables}
 use Rattle.refusals.specs.Refusals.{number_of}

@@ -2,7 +2,7 @@
 --   Toward                     a part of a difference: it lies between 0 and the difference
 --   value_most, value_above    a value between two knots is as far from 0 as theirs at most, and not negative if they are not
 --   product_most, thousandth_most   how far from 0 a shock times a tick value is, and a thousandth of that
-use Rattle.std.specs.Prelude.{◌≡◌, ℕ, zero, suc, ◌+◌, ◌-◌, ◌*◌, ◌/◌, ◌<◌, ◌≤◌, Bool, true, false, cond, ◌⊎◌, ℤ, pos, negsuc, ◌+ℤ◌, ◌-ℤ◌, ◌*ℤ◌, neg_ℤ, ◌≤ℤ◌, ◌==◌, unsigned_abs, refl}
+use Rattle.std.specs.Prelude.{◌≡◌, ℕ, zero, suc, ◌-◌, ◌*◌, ◌/◌, ◌<◌, ◌≤◌, Bool, true, false, cond, ℤ, pos, negsuc, ◌+ℤ◌, ◌-ℤ◌, ◌*ℤ◌, neg_ℤ, ◌≤ℤ◌, ◌==◌, unsigned_abs, refl}
 use Rattle.std.proofs.Common.{⊎_elim, div-lt_iff_lt-mul, mul-le-mul, mul-le-mul_right, mul_comm, arith}
 use Rattle.std.proofs.Math.Nat.{div-le_of_le-mul, zero-div}
 use Rattle.std.proofs.lemmas.Bool.{eqb-false}

@@ -1,5 +1,5 @@
 -- The benchmarks of a family, and of both families, have no more trades than there are.
-use Rattle.std.proofs.Common.{ℕ, ◌+◌, ◌≤◌, List, length, arith}
+use Rattle.std.proofs.Common.{◌+◌, ◌≤◌, List, length, arith}
 use Rattle.tables.specs.Codes.{first_benchmark, second_benchmark}
 use Rattle.tables.specs.declared.codes.Family.{Family}
 use Rattle.tables.specs.declared.codes.Family.TheVariants.{Overnight, Forward}

@@ -1,14 +1,12 @@
 -- A level, a flag and the figures that are found again at the same values stay.
-use Rattle.std.proofs.Common.{◌≡◌, ℕ, ◌+◌, Bool, true, false, cond, Some, None, Option, sym, refl, ap, ◌∙◌, arith}
+use Rattle.std.proofs.Common.{◌≡◌, ℕ, ◌+◌, true, false, Some, None, Option, refl, ap, ◌∙◌, arith}
 use Rattle.std.proofs.lemmas.Bool.Decides.{nat_tests}
 use Rattle.tables.specs.Codes.{first_benchmark, second_benchmark}
 use Rattle.tables.specs.declared.codes.Family.TheVariants.{Overnight, Forward}
 use Rattle.tables.specs.declared.row.Levels.{Levels}
 use Rattle.market.specs.declared.state.Averages.{Averages}
 use Rattle.market.specs.declared.state.FamilyState.{FamilyState}
-use Rattle.market.specs.declared.state.MarketState.{MarketState}
 use Rattle.margins.specs.declared.figures.BenchmarkFigures.{BenchmarkFigures}
-use Rattle.margins.specs.declared.figures.FamilyFigures.{FamilyFigures}
 use Rattle.margins.specs.Charges.{level_of, levels_of}
 use Rattle.margins.specs.Figures.{both_initial, family_at, family_from, family_of, figures_from, figures_of, part_of, securities_of}
 use Rattle.margins.specs.Settled.{LevelSettles, OwnSettles, SecondSettles, FiguresSettle}

@@ -1,20 +1,17 @@
 -- The worked figures, by computation.
-use Rattle.std.proofs.Common.{◌≡◌, ℕ, ◌-◌, ◌*◌, List, [], ◌∷◌, ℤ, pos, ◌-ℤ◌, ◌*ℤ◌, sym, refl, ap, ◌∙◌, arith}
+use Rattle.std.proofs.Common.{◌≡◌, ℕ, List, [], ◌∷◌, pos, refl, ap, ◌∙◌, arith}
 use Rattle.std.specs.Int.{int_div_euclid}
-use Rattle.tail.specs.Tail.{reaches_loss}
 use Rattle.tail.proofs.Orders.{loss_orders}
 use Rattle.tail.proofs.Kths.{kth_from_ranked}
-use Rattle.models.specs.Meaning.{Meaning}
 use Rattle.tables.specs.declared.row.TradeRow.{TradeRow}
 use Rattle.risk.specs.declared.grouping.Grouping.TheVariants.{ByResidual, ByHalfYear}
-use Rattle.risk.specs.declared.figures.RiskFigures.{RiskFigures}
 use Rattle.risk.specs.Initial.{grouped_risk, minimum_of, risk_from, risk_of}
 use Rattle.risk.specs.Losses.{var_of}
 use Rattle.risk.proofs.Apart.{grouped_still}
 use Rattle.risk.proofs.Risks.{var_still}
 use Rattle.market.specs.Volatility.{charged}
 use Rattle.margins.specs.Marks.{worth_of}
-use Rattle.margins.specs.Worked.{today, pay, receive, Still, InitialIs, Worked}
+use Rattle.margins.specs.Worked.{today, pay, receive, InitialIs, Worked}
 
 -- where nothing is at risk the minimum decides
 still_is : (ts : List TradeRow) (n : ℕ) → (risk_from 0 0 0 0 (minimum_of today ts)).initial ≡ n → InitialIs ts n

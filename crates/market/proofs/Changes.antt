@@ -1,6 +1,6 @@
 -- A market call whose questions are answered yes can be made, and leaves a market within its limits.
-use Rattle.std.proofs.Common.{◌≡◌, ℕ, ◌+◌, ◌<◌, ◌≤◌, min, max, Bool, true, false, cond, ◌&&◌, eqb, ltb, leb, List, set, Some, None, Ok, Option, refl, ap, ◌∙◌, arith}
-use Rattle.std.proofs.lemmas.Bool.{and_parts, and_from, leb-true, le-leb, ltb-true}
+use Rattle.std.proofs.Common.{◌≡◌, ℕ, ◌+◌, ◌≤◌, min, max, Bool, true, false, cond, ◌&&◌, eqb, ltb, leb, List, Some, None, Ok, Option, refl, arith}
+use Rattle.std.proofs.lemmas.Bool.{and_parts, and_from, leb-true, le-leb}
 use Rattle.refusals.specs.Refusals.{first_no}
 use Rattle.refusals.proofs.Facts.{all_yes}
 use Rattle.tables.specs.declared.codes.Family.{Family}
@@ -18,7 +18,7 @@ use Rattle.market.specs.declared.state.FamilyState.{FamilyState}
 use Rattle.market.specs.declared.state.MarketState.{MarketState}
 use Rattle.market.specs.States.{averages_keep, thresholds_keep, family_keeps, family_state, market_keeps}
 use Rattle.market.specs.Volatility.{charged, exceeding}
-use Rattle.market.specs.Calls.{with_family, with_averages, with_thresholds, checked_by, checked, volatility_after_day, closed_family, quoted, quote_fits, slot_fits, market_questions, market_changed, can_change}
+use Rattle.market.specs.Calls.{with_family, with_averages, with_thresholds, checked_by, closed_family, quoted, quote_fits, slot_fits, market_questions, market_changed, can_change}
 
 -- the limits of a family and of a market, part by part
 record FamilyParts (f : FamilyState) : Type 0 where

@@ -1,5 +1,5 @@
 -- What the limits of a market state tell, each fact under its name.
-use Rattle.std.proofs.Common.{◌≡◌, ℕ, ◌≤◌, Bool, true, ◌&&◌, leb, arith, rules}
+use Rattle.std.proofs.Common.{◌≡◌, ◌≤◌, true, leb, rules}
 use Rattle.std.specs.List.{AllByRecursion as All}
 use Rattle.std.proofs.lemmas.Bool.{and_parts, leb-true}
 use Rattle.tables.specs.declared.codes.Family.{Family}

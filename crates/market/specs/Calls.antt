@@ -4,7 +4,7 @@
 -- calm_returns: every return is below its calm mark. checked: a family after a volatility check. closed_family: a family after the day.
 -- market_questions: the questions of a call in their order; `sets` is how many sets the call's model has.
 -- market_changed: the market state after an accepted call. can_change: the change can be made as it stands.
-use Rattle.std.specs.Prelude.{ℕ, ◌+◌, min, max, Bool, true, false, cond, ◌&&◌, List, [], ◌∷◌, set, Some, None, Option, ◌==◌, nat_le, nat_lt, slice_index, slice_set}
+use Rattle.std.specs.Prelude.{ℕ, ◌+◌, min, max, Bool, true, false, cond, ◌&&◌, List, [], ◌∷◌, Some, None, Option, ◌==◌, nat_le, nat_lt, slice_index, slice_set}
 use Rattle.refusals.specs.declared.refusal.Refusal.TheVariants.{NoSecurity, NoSet, WrongPrice, WrongStepUp, NoFamily, WrongAverages, WrongThresholds, WrongReturns, NoThresholds, WrongSlot, WrongMonth}
 use Rattle.refusals.specs.Refusals.{Question}
 use Rattle.tables.specs.declared.codes.Family.{Family}

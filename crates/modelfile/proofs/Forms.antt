@@ -1,5 +1,5 @@
 -- What is known of a part of a text, word by word.
-use Rattle.std.proofs.Common.{◌≡◌, ℕ, ◌+◌, ◌*◌, ◌<◌, ◌≤◌, Bool, true, false, cond, leb, List, map, ℤ, Some, None, vec_items, Decides, Option, Result, sym, refl, ap, ◌∙◌, subst, MatchResult}
+use Rattle.std.proofs.Common.{◌≡◌, ℕ, ◌+◌, ◌*◌, ◌≤◌, Bool, true, false, cond, leb, List, map, ℤ, Some, None, vec_items, Decides, Result, sym, ap, ◌∙◌, subst, MatchResult}
 use Rattle.std.proofs.lemmas.Bool.Decides.{same_from_decides, Decides-and}
 use Rattle.std.proofs.lemmas.Bool.{leb-true, le-leb, lt-leb}
 use Rattle.models.specs.Sound.{Counts}
@@ -11,7 +11,7 @@ use Rattle.models.specs.declared.refusal.MakingRefusal.TheVariants.{WrongCounts,
 use Rattle.scan.specs.Number.{number_of}
 use Rattle.scan.specs.Words.{word_of, rest_of, after_number}
 use Rattle.modelfile.specs.Kinds.{kind_of, cells_of, fits}
-use Rattle.modelfile.specs.Taken.{taken, left, as_size, size_by, as_change}
+use Rattle.modelfile.specs.Taken.{taken, left, as_size, as_change}
 use Rattle.modelfile.specs.Parts.{Part, stopped, numbers, refused, malformed, counts_fit, followed, followed_by, tables_of, sized, counted, count_of, named_part, part_of}
 use Rattle.modelfile.specs.Texts.{ending, joining, UnlessMemory}
 use Rattle.modelfile.specs.declared.kind.Kind.{Kind}

@@ -1,5 +1,5 @@
 -- One number more of a text.
-use Rattle.std.proofs.Common.{◌≡◌, ℕ, suc, ◌+◌, ◌-◌, ◌<◌, ◌≤◌, List, [], ◌∷◌, ◌++◌, map, ℤ, Some, None, Option, sym, refl, ap, ◌∙◌, append_assoc, append-nil, arith}
+use Rattle.std.proofs.Common.{◌≡◌, ℕ, suc, ◌+◌, ◌-◌, ◌<◌, ◌≤◌, List, [], ◌∷◌, ℤ, Some, None, sym, ap, ◌∙◌, arith}
 use Rattle.scan.specs.Number.{number_of}
 use Rattle.scan.specs.Words.{word_of, rest_of, after_by, after_number}
 use Rattle.modelfile.specs.Taken.{taken, taken_by, left}

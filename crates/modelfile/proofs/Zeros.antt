@@ -1,9 +1,8 @@
 -- Tables of zeros are sound.
-use Rattle.std.proofs.Common.{◌≡◌, ℕ, zero, suc, ◌≤◌, Bool, true, leb, List, map, length, replicate, ℤ, pos, nat_abs, sym, refl, ap, ◌∙◌, subst, arith}
+use Rattle.std.proofs.Common.{◌≡◌, ℕ, zero, suc, Bool, true, leb, List, map, length, replicate, ℤ, pos, nat_abs, sym, refl, ap, ◌∙◌, subst, arith}
 use lib.ListN.{length-replicate}
 use Rattle.std.proofs.lemmas.Bool.{le-leb}
 use Rattle.models.proofs.Marks.{all_append}
-use Rattle.models.specs.Meaning.{Meaning}
 use Rattle.models.specs.Sound.{Ranges}
 use Rattle.models.specs.SoundLaws.{AllTrue}
 use Rattle.models.specs.Table.{table, TableSound}

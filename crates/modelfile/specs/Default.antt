@@ -1,6 +1,6 @@
 -- The model in use before any is read. Assumes nothing.
 --   zero_table   1 set, 20 scenarios, and every number 0
-use Rattle.std.specs.Prelude.{ℕ, replicate, ℤ, pos}
+use Rattle.std.specs.Prelude.{replicate, pos}
 use Rattle.models.specs.Meaning.{Meaning}
 use Rattle.models.specs.Table.{table}
 

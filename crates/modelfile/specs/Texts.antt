@@ -10,10 +10,9 @@ use Rattle.std.specs.Prelude.{◌≡◌, ℕ, ◌+◌, Bool, true, false, cond, 
 use Rattle.std.specs.Str.{bytes_eq}
 use Rattle.models.specs.Joined.{joint}
 use Rattle.models.specs.Meaning.{Meaning}
-use Rattle.models.specs.declared.refusal.MakingRefusal.{MakingRefusal}
 use Rattle.models.specs.declared.refusal.MakingRefusal.TheVariants.{TooManyScenarios}
 use Rattle.scan.specs.Words.{word_of, rest_of}
-use Rattle.modelfile.specs.Parts.{Answer, means, refused, malformed, Part, stopped, numbers, part_of, Makes, EndsWith}
+use Rattle.modelfile.specs.Parts.{Answer, means, refused, malformed, Part, part_of, Makes, EndsWith}
 use Rattle.modelfile.specs.declared.refusal.LoadRefusal.{LoadRefusal}
 use Rattle.modelfile.specs.declared.refusal.LoadRefusal.TheVariants.{Making, Malformed, Memory}
 

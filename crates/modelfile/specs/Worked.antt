@@ -1,5 +1,5 @@
 -- What some texts give. Assumes nothing.
-use Rattle.std.specs.Prelude.{◌≡◌, codes, refl}
+use Rattle.std.specs.Prelude.{codes, refl}
 use Rattle.std.proofs.Common.{inl}
 use Rattle.models.specs.declared.refusal.MakingRefusal.TheVariants.{WrongCounts}
 use Rattle.modelfile.specs.Parts.{refused, malformed, tables_of, part_of}

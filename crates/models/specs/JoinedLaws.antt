@@ -1,7 +1,7 @@
 -- What is so of two lawful models joined. Assumes nothing.
 --   joint_lawful   the joined model is lawful
 --   joint_joins    it keeps the law of joining
-use Rattle.std.specs.Prelude.{◌≡◌, ℕ, ◌+◌, ◌-◌, ◌<◌, ◌≤◌, Bool, true, false, cond, ◌&&◌, ◌⊎◌, ℤ, pos, nat_lt, unsigned_abs, refl}
+use Rattle.std.specs.Prelude.{◌≡◌, ℕ, ◌+◌, ◌-◌, ◌<◌, ◌≤◌, Bool, true, false, cond, ◌&&◌, ℤ, pos, nat_lt, unsigned_abs, refl}
 use Rattle.std.proofs.Common.{sym, ◌∙◌, inl, inr, ⊎_elim, arith, le-ltb, lt-ltb}
 use Rattle.std.proofs.lemmas.Bool.{and_left, and_right, cond-true, cond-false, and_from, and_parts, cases_lt, ltb-true}
 use Rattle.models.specs.Meaning.{Meaning, Lawful, Outside}

@@ -1,9 +1,8 @@
 -- The groups of one grouping are apart, so that together they have no more trades than there are.
-use Rattle.std.proofs.Common.{◌≡◌, ℕ, zero, suc, ◌+◌, ◌*◌, ◌<◌, ◌≤◌, Bool, true, false, cond, eqb, ltb, leb, List, [], ◌∷◌, length, pos, count_by, filter, sym, refl, ap, ◌∙◌, subst, arith, rules}
-use Rattle.std.specs.List.{AllByRecursion as All}
+use Rattle.std.proofs.Common.{◌≡◌, ℕ, zero, suc, ◌+◌, ◌*◌, ◌≤◌, true, cond, eqb, ltb, leb, List, [], ◌∷◌, length, pos, count_by, filter, sym, refl, ap, arith, rules}
 use Rattle.std.proofs.lemmas.Bool.Decides.{nat_tests}
 use Rattle.std.proofs.lemmas.Bool.{le-ltb, le-leb, leb-true, and_parts, and_from}
-use Rattle.std.proofs.lemmas.List.Sums.{length-filter, count_by-le-length, sum_by-cons}
+use Rattle.std.proofs.lemmas.List.Sums.{length-filter, count_by-le-length}
 use Rattle.std.proofs.ByRecursion.{all_kept_by}
 use Rattle.tail.proofs.Kths.{count_cons}
 use Rattle.tables.specs.Limits.{trade_keeps, trades_stand}

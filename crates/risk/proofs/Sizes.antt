@@ -1,5 +1,5 @@
 -- How far from 0 a product and a negation are.
-use Rattle.std.proofs.Common.{◌≡◌, ℕ, zero, suc, ◌*◌, ◌≤◌, ℤ, pos, negsuc, ◌*ℤ◌, neg_ℤ, nat_abs, sym, refl, ◌∙◌, subst, mul-le-mul, arith, w32, w64, SFits, to_z, of_z}
+use Rattle.std.proofs.Common.{◌≡◌, ℕ, zero, suc, ◌*◌, ◌≤◌, ℤ, pos, negsuc, ◌*ℤ◌, neg_ℤ, nat_abs, refl, mul-le-mul, arith, w32, w64, SFits, to_z, of_z}
 use lib.IntN.{pos-*ℤ-negsuc}
 use Rattle.std.proofs.lemmas.Int.{to_z-of_z, to_z_pos}
 

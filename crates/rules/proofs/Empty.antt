@@ -1,5 +1,5 @@
 -- Empty accounts: the books that an opening leaves, and that they rest.
-use Rattle.std.proofs.Common.{◌≡◌, ℕ, zero, suc, ◌+◌, ◌*◌, Bool, false, List, [], ◌∷◌, map, take, drop, replicate, pos, fold, sym, refl, ap, ◌∙◌, ap₂, arith, take_at, drop_at}
+use Rattle.std.proofs.Common.{◌≡◌, ℕ, zero, suc, ◌+◌, ◌*◌, false, List, [], ◌∷◌, map, take, drop, replicate, pos, fold, sym, refl, ap, ◌∙◌, ap₂, arith, take_at, drop_at}
 use lib.ListN.{length-replicate, replicate-append-replicate}
 use Rattle.models.specs.Meaning.{Meaning}
 use Rattle.tables.specs.declared.codes.Benchmark.{Benchmark}
@@ -24,7 +24,7 @@ use Rattle.margins.specs.Marks.{marks_of}
 use Rattle.rules.specs.Opening.{empty_row, opened_market, opened_rows, opened_trades, quiet_family}
 use Rattle.rules.specs.Rows.{with_second}
 use Rattle.rules.specs.Settling.{figured_row, settled_row, house_settled, reflagged}
-use Rattle.rules.specs.Stands.{Stand, stand_of, finish, cover_of, shortfalls}
+use Rattle.rules.specs.Stands.{Stand, stand_of, finish}
 
 abbrev pub empty_book : Book
 empty_book = book empty_row (replicate 64 no_trade)

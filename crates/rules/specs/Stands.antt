@@ -3,7 +3,7 @@
 -- cover_of: the sum of the constituents' shortfalls. ordered: what a call on one account comes to, from that account's book alone
 -- (with the cover, for the house). finish: cover and house settled, then all second flags. after_account: the stand after an account call.
 -- AtRest: tables that are settled.
-use Rattle.std.specs.Prelude.{◌≡◌, ℕ, Bool, cond, List, [], ◌∷◌, ◌++◌, map, length, drop, sum_by, ◌==◌, nat_lt, slice_index_or, slice_set}
+use Rattle.std.specs.Prelude.{◌≡◌, ℕ, Bool, cond, List, ◌∷◌, map, length, drop, sum_by, ◌==◌, nat_lt, slice_index_or, slice_set}
 use Rattle.models.specs.Meaning.{Meaning}
 use Rattle.tables.specs.declared.row.AccountRow.{AccountRow}
 use Rattle.tables.specs.declared.row.TradeRow.{TradeRow}

@@ -1,5 +1,5 @@
 -- One byte more of a text.
-use Rattle.std.proofs.Common.{◌≡◌, ℕ, ◌+◌, ◌-◌, ◌*◌, ◌<◌, ◌≤◌, min, Bool, true, false, cond, ◌&&◌, List, [], ◌∷◌, length, get_or, drop, Some, None, Option, refl, ap, ◌∙◌, ⊎_elim, add-one, arith, drop_of_length-le, drop-cons}
+use Rattle.std.proofs.Common.{◌≡◌, ℕ, ◌+◌, ◌-◌, ◌*◌, ◌<◌, ◌≤◌, min, true, false, cond, ◌&&◌, List, [], ◌∷◌, length, get_or, drop, Some, None, ap, ◌∙◌, ⊎_elim, add-one, arith, drop_of_length-le, drop-cons}
 use Rattle.scan.specs.Words.{blank, blanks, letters}
 use Rattle.std.proofs.lemmas.Bool.{cases_lt}
 use Rattle.scan.specs.Number.{digit, digits, decimal, cap, step, read_on}

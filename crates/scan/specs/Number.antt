@@ -6,7 +6,7 @@
 --   minus           whether a word begins with a minus
 --   number_of       the number that a word writes, if it is one: a minus or none, then one or more digits
 --   step, read_on   one digit more, and digits after a number already read: how a reader goes on
-use Rattle.std.specs.Prelude.{ℕ, ◌+◌, ◌-◌, ◌*◌, min, Bool, true, false, cond, ◌&&◌, List, [], ◌∷◌, length, drop, ℤ, pos, neg_ℤ, Some, None, Option, ◌==◌, nat_le, nat_lt, slice_index}
+use Rattle.std.specs.Prelude.{ℕ, ◌+◌, ◌-◌, ◌*◌, min, Bool, true, cond, ◌&&◌, List, [], ◌∷◌, length, drop, ℤ, pos, neg_ℤ, Some, None, Option, ◌==◌, nat_le, nat_lt, slice_index}
 
 abbrev pub digit : ℕ → Bool
 digit b = nat_le 48 b && nat_le b 57

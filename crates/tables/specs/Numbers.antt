@@ -1,7 +1,7 @@
 -- Sums and rounding.
 -- sum_below f n: f 0 + f 1 + .. + f (n - 1).
 -- rounded_up a b: the quotient a / b, rounded up. RoundsUp: it is the least number that covers the quotient.
-use Rattle.std.specs.Prelude.{◌≡◌, ℕ, zero, suc, ◌+◌, ◌*◌, ◌/◌, ◌%◌, ◌≤◌, min}
+use Rattle.std.specs.Prelude.{ℕ, zero, suc, ◌+◌, ◌*◌, ◌/◌, ◌%◌, ◌≤◌, min}
 
 unfoldable pub sum_below : (ℕ → ℕ) → ℕ → ℕ
 sum_below f zero = 0

@@ -3,7 +3,7 @@ use Rattle.std.proofs.Common.{◌≡◌, ℕ, zero, suc, ◌+◌, ◌-◌, ◌<�
 use Rattle.std.specs.List.{ContainsAt as Has, AllByRecursion as All}
 use Rattle.std.proofs.lemmas.List.Sums.{sum_by-cons, fold_push}
 use Rattle.std.proofs.lemmas.List.{get_or-take, get_or_default, take_all, take_at, take_more, length_push, length-take-le}
-use Rattle.std.proofs.ByRecursion.{All-weaker, All-get_or, All-take, all_has_itself, has_get_or}
+use Rattle.std.proofs.ByRecursion.{All-weaker, All-get_or, All-take, all_has_itself}
 use Rattle.tail.proofs.Places.{placed_take}
 use Rattle.tail.specs.Tail.{Orders, Holds, placed, ranked, count_at_least, Kth}
 

@@ -1,5 +1,4 @@
-use Rattle.std.proofs.Common.{◌≡◌, true, sym, ap, ◌∙◌, subst, arith}
-use Rattle.tables.specs.Limits.{holdings_keep}
+use Rattle.std.proofs.Common.{arith}
 use Rattle.rules.specs.Settling.{settled_row}
 use Rattle.accounts.proofs.Keeps.{figured_keeps}
 use Rattle.accounts.proofs.settle.settle.Goals as goal

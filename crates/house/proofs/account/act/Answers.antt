@@ -1,9 +1,9 @@
-use Rattle.std.proofs.Common.{◌≡◌, ℕ, ◌<◌, true, eqb, List, length, get_or, drop, sym, ap, ◌∙◌, ap₂, arith}
+use Rattle.std.proofs.Common.{◌≡◌, ℕ, ◌<◌, true, eqb, List, get_or, drop, sym, ap, ◌∙◌, ap₂, arith}
 use Rattle.tables.specs.declared.row.AccountRow.{AccountRow}
 use Rattle.tables.specs.declared.row.TradeRow.{TradeRow}
 use Rattle.tables.specs.Books.{Book, book, books_of, no_row, places_at}
 use Rattle.tables.specs.Limits.{tables_keep}
-use Rattle.tables.proofs.Books.{Kept, kept, most_of, put_keeps}
+use Rattle.tables.proofs.Books.{kept, most_of, put_keeps}
 use Rattle.tables.proofs.Facts.{Booked, booked}
 use Rattle.refusals.proofs.Facts.{refusal_some}
 use Rattle.rules.specs.Stands.{ordered, shortfalls, standing, finish, rows_of}

@@ -1,4 +1,4 @@
-use Rattle.std.proofs.Common.{◌≡◌, suc, Bool, true, eqb, get_or, sym, refl, ap, ◌∙◌, arith, rules}
+use Rattle.std.proofs.Common.{◌≡◌, suc, true, eqb, get_or, sym, refl, ap, ◌∙◌}
 use Rattle.tables.specs.Books.{no_row}
 use Rattle.tables.specs.Limits.{tables_keep}
 use Rattle.rules.specs.Outcomes.{Outcome, left_alone}

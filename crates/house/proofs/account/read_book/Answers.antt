@@ -1,4 +1,4 @@
-use Rattle.std.proofs.Common.{◌≡◌, length, sym, ap, ◌∙◌}
+use Rattle.std.proofs.Common.{length, sym, ap, ◌∙◌}
 use Rattle.tables.proofs.Books.{length_places_at}
 use Rattle.house.proofs.account.read_book.Goals as goal
 

@@ -1,4 +1,4 @@
-use Rattle.std.proofs.Common.{◌≡◌, ◌<◌, length, get_or, ap, ◌∙◌, arith}
+use Rattle.std.proofs.Common.{◌<◌, length, arith}
 use Rattle.tables.specs.Limits.{no_trade}
 use Rattle.rules.specs.declared.call.AccountCall.TheVariants.{Trade}
 use Rattle.rules.specs.declared.call.NamedCall.{NamedCall}

@@ -1,4 +1,4 @@
-use Rattle.std.proofs.Common.{◌≡◌, ◌≤◌, length, take, drop}
+use Rattle.std.proofs.Common.{◌≡◌, take, drop}
 use Rattle.rules.specs.Runs.{lent_run, answers_run}
 use Rattle.house.proofs.listing.answer_all.Given as goal
 

@@ -1,4 +1,4 @@
-use Rattle.std.proofs.Common.{◌≡◌, ℕ, map, Option, sym, ap, ◌∙◌}
+use Rattle.std.proofs.Common.{ℕ, map, Option, sym, ap, ◌∙◌}
 use Rattle.tables.specs.Books.{books_of}
 use Rattle.rules.specs.MarketCalls.{new_month, aged_by}
 use Rattle.house.proofs.Announced.{unaged}

@@ -1,4 +1,4 @@
-use Rattle.std.proofs.Common.{◌≡◌, ℕ, ◌<◌, true, List, ◌++◌, map, length, get_or, take, drop, sym, ap, ◌∙◌, append-nil, arith, take_all}
+use Rattle.std.proofs.Common.{◌≡◌, ◌<◌, length, get_or, ◌∙◌, append-nil, arith, take_all}
 use Rattle.std.proofs.lemmas.List.{drop_all}
 use Rattle.tables.specs.Books.{book, books_of, no_row, places_at}
 use Rattle.tables.proofs.Books.{kept, most_of, length_books, length_places_at}

@@ -1,13 +1,11 @@
-use Rattle.std.proofs.Common.{◌≡◌, ℕ, ◌+◌, ◌*◌, ◌≤◌, true, false, List, length, get_or, take, drop, sum_by, sym, ap, ◌∙◌, subst, arith, length-drop}
+use Rattle.std.proofs.Common.{◌≡◌, ℕ, ◌≤◌, true, List, length, get_or, sum_by, sym, ap, ◌∙◌, subst, arith, length-drop}
 use Rattle.std.specs.List.{AllByRecursion as All}
 use Rattle.tables.specs.declared.row.AccountRow.{AccountRow}
 use Rattle.tables.specs.declared.row.TradeRow.{TradeRow}
 use Rattle.tables.specs.Books.{book, no_row, places_at}
-use Rattle.tables.specs.Limits.{trades_stand, tables_keep}
-use Rattle.rules.specs.Rows.{with_second}
-use Rattle.rules.specs.Settling.{settled_row}
-use Rattle.tables.proofs.Books.{Kept, kept}
-use Rattle.tables.proofs.Facts.{Booked, booked, held, standing_stands}
+use Rattle.tables.specs.Limits.{tables_keep}
+use Rattle.tables.proofs.Books.{kept}
+use Rattle.tables.proofs.Facts.{Booked, booked}
 use Rattle.house.proofs.Finishing.{finished, shortfalls_fit}
 use Rattle.house.proofs.Resting.{tables_rest}
 use Rattle.house.proofs.settle.finish_settling.Goals as goal

@@ -1,4 +1,4 @@
-use Rattle.std.proofs.Common.{◌≡◌, ap, ◌∙◌}
+use Rattle.std.proofs.Common.{ap, ◌∙◌}
 use Rattle.tables.specs.Books.{places_at}
 use Rattle.tables.specs.Limits.{trades_stand}
 use Rattle.tables.proofs.Facts.{standing_stands}

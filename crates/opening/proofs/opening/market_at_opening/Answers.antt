@@ -1,4 +1,4 @@
-use Rattle.std.proofs.Common.{◌≡◌, ap, ◌∙◌}
+use Rattle.std.proofs.Common.{ap, ◌∙◌}
 use Rattle.market.specs.States.{market_keeps}
 use Rattle.opening.proofs.Opened.{market_opens}
 use Rattle.opening.proofs.opening.market_at_opening.Goals as goal

@@ -1,7 +1,7 @@
-use Rattle.std.proofs.Common.{◌≡◌, ℕ, replicate, refl, ap, ◌∙◌, ap₂}
+use Rattle.std.proofs.Common.{ℕ, replicate, refl, ap, ◌∙◌, ap₂}
 use Rattle.tables.specs.Limits.{no_trade, tables_keep}
 use Rattle.rules.specs.Opening.{empty_row}
-use Rattle.opening.proofs.Opened.{Allowed, allowed, opened_keeps}
+use Rattle.opening.proofs.Opened.{allowed, opened_keeps}
 use Rattle.opening.proofs.opening.open_now.Goals as goal
 
 pub invariant_of-house : goal.invariant_of-house

@@ -1,4 +1,4 @@
-use Rattle.std.proofs.Common.{◌≡◌, ◌≤◌, pos, ◌*ℤ◌, nat_abs, refl, arith, w64, SFits}
+use Rattle.std.proofs.Common.{pos, ◌*ℤ◌, arith, w64, SFits}
 use Rattle.std.proofs.lemmas.Int.{to_z-of_z}
 use Rattle.risk.proofs.Sizes.{times_most, fits_64, cast_times}
 use Rattle.risk.proofs.flows.times.Goals as goal

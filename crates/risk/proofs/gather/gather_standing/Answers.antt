@@ -1,4 +1,4 @@
-use Rattle.std.proofs.Common.{◌≡◌, true, length, sym, ap, ◌∙◌, arith, rules}
+use Rattle.std.proofs.Common.{ap, ◌∙◌, arith, rules}
 use Rattle.tables.specs.Limits.{trades_stand}
 use Rattle.risk.specs.Groups.{group_trades}
 use Rattle.risk.proofs.Apart.{standing, group_stands}

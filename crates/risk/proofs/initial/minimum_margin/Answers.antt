@@ -1,4 +1,4 @@
-use Rattle.std.proofs.Common.{◌≡◌, ◌+◌, ◌*◌, ◌≤◌, ◌+ℤ◌, nat_abs, ap, ◌∙◌, arith, take_all, w64}
+use Rattle.std.proofs.Common.{◌+◌, ◌*◌, ◌≤◌, ◌+ℤ◌, nat_abs, ap, ◌∙◌, arith, take_all, w64}
 use Rattle.std.proofs.lemmas.Int.{to_z-of_z}
 use Rattle.std.proofs.ByRecursion.{All-get_or}
 use Rattle.tables.specs.Limits.{no_trade}

@@ -1,4 +1,4 @@
-use Rattle.std.proofs.Common.{◌≡◌, ℕ, ◌+◌, sym, refl, ap, ◌∙◌, arith}
+use Rattle.std.proofs.Common.{◌≡◌, ℕ, ◌+◌, refl, ap, ◌∙◌, arith}
 use Rattle.risk.specs.Groups.{group_trades, groups_of}
 use Rattle.tables.specs.Numbers.{sum_below}
 use Rattle.risk.specs.Losses.{var_of}

@@ -1,4 +1,4 @@
-use Rattle.std.proofs.Common.{◌≡◌, ◌<◌, ◌≤◌, length, get_or, pos, ◌+ℤ◌, nat_abs, sym, ap, ◌∙◌, arith, w64, to_z, of_z}
+use Rattle.std.proofs.Common.{◌<◌, ◌≤◌, length, get_or, pos, ◌+ℤ◌, nat_abs, ap, arith, w64, to_z, of_z}
 use Rattle.risk.specs.Losses.{leg_of}
 use Rattle.risk.proofs.Adds.{added, adds_here, adds_below, adds_above}
 use Rattle.risk.proofs.losses.add_legs.Goals as goal

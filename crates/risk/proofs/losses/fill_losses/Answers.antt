@@ -1,4 +1,4 @@
-use Rattle.std.proofs.Common.{◌≡◌, length, get_or, take, pos, ◌+ℤ◌, sym, refl, ap, ◌∙◌, arith, take_all}
+use Rattle.std.proofs.Common.{length, refl, ap, ◌∙◌, arith, take_all}
 use Rattle.std.proofs.ByRecursion.{All-get_or}
 use Rattle.tables.specs.Limits.{no_trade}
 use Rattle.risk.specs.Groups.{TradeFits}

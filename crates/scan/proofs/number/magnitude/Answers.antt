@@ -1,4 +1,4 @@
-use Rattle.std.proofs.Common.{sym, ◌∙◌, rules}
+use Rattle.std.proofs.Common.{rules}
 use Rattle.scan.proofs.Steps.{read_go, read_stop, read_end}
 use Rattle.scan.proofs.number.magnitude.Goals as goal
 

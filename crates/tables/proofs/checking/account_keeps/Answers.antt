@@ -1,5 +1,5 @@
 use Rattle.tables.proofs.Books.{length_places_at}
-use Rattle.std.proofs.Common.{◌≡◌, length, get_or, ap, ◌∙◌, arith}
+use Rattle.std.proofs.Common.{length, get_or, ap, ◌∙◌, arith}
 use Rattle.tables.specs.Books.{book, no_row}
 use Rattle.tables.specs.Limits.{book_keeps}
 use Rattle.tables.proofs.checking.account_keeps.Goals as goal

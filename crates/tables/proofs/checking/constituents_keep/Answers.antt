@@ -1,4 +1,4 @@
-use Rattle.std.proofs.Common.{◌≡◌, ◌<◌, ◌≤◌, length, get_or, sym, ap, ◌∙◌, arith}
+use Rattle.std.proofs.Common.{◌<◌, length, sym, ap, ◌∙◌, arith}
 use Rattle.tables.specs.Books.{books_of, no_row, no_book}
 use Rattle.tables.specs.Limits.{constituent_keeps}
 use Rattle.tables.proofs.Alls.{all_by_no, all_by_more, all_by_all}

@@ -1,4 +1,4 @@
-use Rattle.std.proofs.Common.{◌≡◌, sym, ◌∙◌}
+use Rattle.std.proofs.Common.{sym, ◌∙◌}
 use Rattle.tables.specs.Limits.{trade_keeps, no_trade}
 use Rattle.tables.proofs.Alls.{all_by_no, all_by_more, all_by_all}
 use Rattle.tables.proofs.limits.each_keeps.Goals as goal

@@ -1,4 +1,4 @@
-use Rattle.std.proofs.Common.{◌≡◌, leb, sym, ◌∙◌}
+use Rattle.std.proofs.Common.{leb, sym, ◌∙◌}
 use Rattle.std.proofs.lemmas.Bool.{lt-leb, le-leb}
 use Rattle.tables.proofs.Alls.{all_by_no, all_by_more, all_by_all}
 use Rattle.tables.proofs.limits.lots_keep.Goals as goal

@@ -1,4 +1,4 @@
-use Rattle.std.proofs.Common.{◌≡◌, sym, ◌∙◌}
+use Rattle.std.proofs.Common.{sym, ◌∙◌}
 use Rattle.tables.specs.Limits.{security_keeps, no_security}
 use Rattle.tables.proofs.Alls.{all_by_no, all_by_more, all_by_all}
 use Rattle.tables.proofs.limits.securities_keep.Goals as goal

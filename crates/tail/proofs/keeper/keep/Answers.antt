@@ -1,4 +1,4 @@
-use Rattle.std.proofs.Common.{◌≡◌, length, arith}
+use Rattle.std.proofs.Common.{arith}
 use Rattle.tail.proofs.Kths.{holds_push, holds_stays}
 use Rattle.tail.proofs.keeper.keep.Goals as goal
 

@@ -1,4 +1,4 @@
-use Rattle.std.proofs.Common.{◌≡◌, ◌<◌, ◌≤◌, length, arith}
+use Rattle.std.proofs.Common.{◌≡◌, ◌<◌, length, arith}
 use Rattle.tail.proofs.Kths.{kth_held, last_held}
 use Rattle.tail.proofs.keeper.kth_highest.Goals as goal
 

@@ -1,9 +1,9 @@
-use Rattle.std.proofs.Common.{◌≡◌, length, nat_abs, sym, ap, ◌∙◌, arith, w64}
+use Rattle.std.proofs.Common.{length, nat_abs, ap, ◌∙◌, arith, w64}
 use Rattle.std.proofs.lemmas.Int.{to_z-of_z}
 use Rattle.risk.specs.Signs.{lost_of}
 use Rattle.risk.proofs.Apart.{standing}
 use Rattle.risk.proofs.Signs.{lost_le}
-use Rattle.margins.specs.Marks.{marks_of, credit_of}
+use Rattle.margins.specs.Marks.{credit_of}
 use Rattle.margins.specs.Figures.{benchmark_of}
 use Rattle.margins.proofs.figures.work.benchmark_figures.Goals as goal
 

@@ -1,10 +1,9 @@
-use Rattle.std.proofs.Common.{◌≡◌, ◌≤◌, sym, ap, ◌∙◌, subst, arith}
-use Rattle.tables.specs.Codes.{first_benchmark, second_benchmark}
+use Rattle.std.proofs.Common.{◌≤◌, sym, ap, subst, arith}
 use Rattle.market.specs.declared.state.FamilyState.{FamilyState}
 use Rattle.market.proofs.Facts.{orderly}
 use Rattle.risk.proofs.Apart.{standing}
 use Rattle.margins.specs.declared.figures.FamilyFigures.{FamilyFigures}
-use Rattle.margins.specs.Figures.{family_of, part_of, many}
+use Rattle.margins.specs.Figures.{family_of}
 use Rattle.margins.proofs.Bounds.{family_few}
 use Rattle.margins.proofs.figures.work.family_figures.Goals as goal
 

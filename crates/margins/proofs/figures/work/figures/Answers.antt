@@ -1,7 +1,4 @@
-use Rattle.std.proofs.Common.{◌≡◌, ◌≤◌, true, sym, ap, ◌∙◌, subst, arith, rules}
-use Rattle.std.specs.List.{AllByRecursion as All}
-use Rattle.tables.specs.declared.row.SecurityRow.{SecurityRow}
-use Rattle.tables.specs.Limits.{security_keeps}
+use Rattle.std.proofs.Common.{arith, rules}
 use Rattle.tables.proofs.Facts.{held}
 use Rattle.market.proofs.Facts.{orderly}
 use Rattle.risk.proofs.Apart.{standing}

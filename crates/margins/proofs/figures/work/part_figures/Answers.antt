@@ -1,9 +1,6 @@
-use Rattle.std.proofs.Common.{◌≡◌, ◌-◌, length, take, sym, ap, ◌∙◌, subst, arith, rules}
+use Rattle.std.proofs.Common.{◌≡◌, ◌-◌, take, ap, ◌∙◌, arith, rules}
 use Rattle.tables.specs.Limits.{trades_stand}
-use Rattle.tables.specs.Codes.{benchmark_code}
-use Rattle.risk.specs.declared.grouping.Grouping.TheVariants.{ByBenchmark}
-use Rattle.risk.specs.Groups.{group_trades}
-use Rattle.margins.specs.Figures.{benchmark_of, part_of, Bounded, many}
+use Rattle.margins.specs.Figures.{part_of}
 use Rattle.margins.proofs.figures.work.part_figures.Goals as goal
 
 pub new-requires : goal.new-requires

@@ -1,4 +1,4 @@
-use Rattle.std.proofs.Common.{◌≡◌, true, Ok, sym, ap, ◌∙◌}
+use Rattle.std.proofs.Common.{◌≡◌, Ok, sym, ap, ◌∙◌}
 use Rattle.refusals.specs.Refusals.{first_no}
 use Rattle.market.specs.States.{market_keeps}
 use Rattle.market.specs.Calls.{market_questions}

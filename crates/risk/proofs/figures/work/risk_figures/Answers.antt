@@ -1,7 +1,5 @@
-use Rattle.std.proofs.Common.{◌≡◌, length, sym, ap, ◌∙◌, subst, arith}
+use Rattle.std.proofs.Common.{length, ap, arith}
 use Rattle.market.proofs.Facts.{orderly}
-use Rattle.risk.specs.Initial.{risk_of}
-use Rattle.risk.specs.Losses.{AtRisk}
 use Rattle.risk.proofs.Apart.{standing}
 use Rattle.risk.proofs.figures.work.risk_figures.Goals as goal
 

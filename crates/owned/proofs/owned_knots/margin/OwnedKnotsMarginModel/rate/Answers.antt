@@ -1,4 +1,4 @@
-use Rattle.std.proofs.Common.{ap, ◌∙◌, rules}
+use Rattle.std.proofs.Common.{ap, ◌∙◌}
 use Rattle.models.specs.Meaning.{Meaning}
 use Rattle.owned.proofs.owned_knots.margin.OwnedKnotsMarginModel.rate.Goals as goal
 

@@ -1,4 +1,4 @@
-use Rattle.std.proofs.Common.{ap, ◌∙◌, rules}
+use Rattle.std.proofs.Common.{ap, rules}
 use Rattle.models.specs.Meaning.{Meaning}
 use Rattle.owned.proofs.owned_table.margin.OwnedTableMarginModel.change.Goals as goal
 
