@@ -1,6 +1,6 @@
 -- Lists of events: one more event, and the isolation of a run.
-use Rattle.std.proofs.Common.{◌≡◌, ℕ, suc, ◌+◌, ◌<◌, ◌≤◌, min, Bool, true, cond, List, [], ◌∷◌, ◌++◌, map, length, get_or, take, drop, set, Ok, Err, Result, sym, refl, ap, ◌∙◌, subst, ap₂, arith}
-use Rattle.std.proofs.lemmas.Bool.{cond-true}
+use Rattle.std.proofs.Common.{◌≡◌, ℕ, suc, ◌+◌, ◌<◌, ◌≤◌, min, Bool, true, cond, ⊎_elim, List, [], ◌∷◌, ◌++◌, map, length, get_or, take, drop, set, Ok, Err, Result, sym, refl, ap, ◌∙◌, subst, ap₂, arith}
+use Rattle.std.proofs.lemmas.Bool.{cond-true, cases_lt}
 use Rattle.std.proofs.lemmas.List.{take_more, take_more_set, drop-set-lt, drop-drop}
 use Rattle.models.specs.Meaning.{Meaning}
 use Rattle.refusals.specs.declared.refusal.Refusal.{Refusal}
@@ -15,12 +15,25 @@ use Rattle.rules.specs.declared.call.Event.{Event}
 use Rattle.rules.specs.declared.call.Reply.{Reply}
 use Rattle.rules.specs.Opening.{opened_market, opened_rows, opened_trades}
 use Rattle.rules.specs.Stands.{Stand, standing}
+use Rattle.house.proofs.Lent.{rows_stand, trades_stand}
 use Rattle.isolation.specs.Runs.{after, reply, run, replies, opened}
 use Rattle.isolation.specs.Views.{constituent_trace, house_trace, observed, own_replies}
 use Rattle.isolation.specs.Isolation.{Agree, book_of, Accounted, Covered}
 use Rattle.isolation.proofs.Unwinding.{replies_observed, run_append, replies_append, own_append}
 use Rattle.isolation.proofs.Law.{constituents_isolated, house_isolated, accounted_run, covered_run}
-use Rattle.calls.specs.Promises.{Past, first_stand, IsolatedRun, Replays, IsolatedDay, Day}
+use Rattle.calls.specs.Promises.{Past, first_stand, IsolatedRun, HeldBy, Replays, IsolatedDay, Day}
+
+-- tables that keep their limits hold the stand that they are read as
+pub held_by : (k : MarketState) (n : ℕ) (rs : List AccountRow) (ts : List TradeRow) → 1 ≤ n → tables_keep n rs ts ≡ true → HeldBy n (standing k rs ts)
+held_by k n rs ts some h =
+    let r = rows_stand k n rs ts some h in
+    let t = trades_stand k n rs ts some h in
+    record { keeps = ap₂ (tables_keep n) r t ∙ h; stands = ap₂ (standing k) r t }
+
+-- what holds up to i and at i + 1 holds up to i + 1
+pub up_to_more : (P : ℕ → Type 0) (i : ℕ) → ((j : ℕ) → j ≤ i → P j) → P (i + 1) → (j : ℕ) → j ≤ i + 1 → P j
+up_to_more P i below here j le =
+    ⊎_elim (λ lt. below j (omega arith)) (λ ge. let e : i + 1 ≡ j = omega arith in subst P e here) (cases_lt j (i + 1))
 
 -- one event more
 module _ (m : Meaning) (s : Stand) (es : List Event) (i : ℕ) (d : Event) (lt : i < length es) where
@@ -90,6 +103,7 @@ day_opened m month n l us vs es os ps r some h p = record {
   rows = (p.tables h).0;
   trades = (p.tables h).1;
   keeps = p.keeps ∙ h;
+  throughout = p.throughout h;
   isolated = isolated_day m month n some (take r es) (take r ps) (standing l us vs) p.replied p.stands;
 }
 

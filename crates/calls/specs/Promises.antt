@@ -1,6 +1,6 @@
 -- What the calls that answer, replay and play promise.
 -- AnswersCall: one call, on any tables. Past: an accepted opening and a list of events that led to a stand.
--- IsolatedRun: the isolation of a run from a stand, whatever past led there. Replays: a list of events, from where a house stands.
+-- IsolatedRun: the isolation of a run from a stand, whatever past led there. HeldBy: tables within their limits that hold a stand. Replays: a list of events, from where a house stands.
 -- IsolatedDay: the isolation of a run from an opening. PlaysDay: an opening, and a list of events after it.
 use Rattle.std.specs.Prelude.{◌≡◌, ℕ, suc, ◌<◌, ◌≤◌, min, Bool, true, false, cond, List, ◌++◌, length, take, drop, ◌≢◌}
 use Rattle.models.specs.Meaning.{Meaning}
@@ -66,6 +66,11 @@ pub record IsolatedRun (m : Meaning) (s : Stand) (es : List Event) (os : List Re
   pub accounted : (p : Past m s) → Accounted p.accounts (p.events ++ es) (replies m (first_stand p) p.events ++ os) t
   pub covered : Past m s → Covered m t
 
+-- the tables of n accounts that a stand is keep their limits, and the stand is what they hold
+pub record HeldBy (n : ℕ) (s : Stand) : Type 0 where
+  pub keeps : tables_keep n (rows_of s) (trades_of s) ≡ true
+  pub stands : standing s.market (rows_of s) (trades_of s) ≡ s
+
 -- the first r of the events es were played, and of the places os for replies, which became ps, the first r were filled
 pub record Replays (m : Meaning) (k l : MarketState) (n : ℕ) (rs us : List AccountRow) (ts vs : List TradeRow) (es : List Event) (os ps : List Reply) (r : ℕ) : Type 0 where
   -- as many as there is room for, and none where the tables fail question 1
@@ -77,6 +82,8 @@ pub record Replays (m : Meaning) (k l : MarketState) (n : ℕ) (rs us : List Acc
   pub tables : tables_keep n rs ts ≡ true → (us ≡ rows_of (run m (standing k rs ts) (take r es))) × (vs ≡ trades_of (run m (standing k rs ts) (take r es)))
   pub wrong : tables_keep n rs ts ≡ false → (l ≡ k) × (us ≡ rs) × (vs ≡ ts)
   pub keeps : tables_keep n us vs ≡ tables_keep n rs ts
+  -- limits stay kept at every event
+  pub throughout : tables_keep n rs ts ≡ true → (i : ℕ) → i ≤ r → HeldBy n (run m (standing k rs ts) (take i es))
   pub isolated : IsolatedRun m (standing k rs ts) (take r es) (take r ps) (standing l us vs)
 
 -- the same of a run from the opening with n accounts in a month: there is no past to speak of
@@ -107,6 +114,7 @@ pub record Day (m : Meaning) (month n : ℕ) (l : MarketState) (us : List Accoun
   pub rows : us ≡ rows_of (run m (opened month n) (take r es))
   pub trades : vs ≡ trades_of (run m (opened month n) (take r es))
   pub keeps : tables_keep n us vs ≡ true
+  pub throughout : (i : ℕ) → i ≤ r → HeldBy n (run m (opened month n) (take i es))
   pub isolated : IsolatedDay m month n (take r es) (take r ps) (standing l us vs)
 
 -- a refused opening leaves everything as it was, and nothing is played

@@ -1,9 +1,9 @@
 // A list of calls, played from where a house stands.
-ghost use Rattle.std.specs.Prelude.{◌≡◌, min, true, length, take, drop};
+ghost use Rattle.std.specs.Prelude.{◌≡◌, ℕ, ◌≤◌, min, true, length, take, drop};
 ghost use Rattle.tables.specs.Limits.{tables_keep};
 ghost use Rattle.rules.specs.Stands.{standing};
 ghost use Rattle.isolation.specs.Runs.{after, reply, run, replies};
-ghost use Rattle.calls.specs.Promises.{Replays};
+ghost use Rattle.calls.specs.Promises.{HeldBy, Replays};
 
 use super::answer::answer;
 use models::model::MarginModel;
@@ -48,6 +48,7 @@ fn play_events<M: MarginModel>(
     ensures rest { drop result answers.new ≡ drop result answers.old }
     ensures stands { standing house.new.market.state records.new trades.new ≡ run (M.meaning model.now) (standing house.old.market.state records.old trades.old) (take result events.now) }
     ensures keeps { tables_keep house.old.accounts records.new trades.new ≡ true }
+    ensures throughout { (i : ℕ) → i ≤ result → HeldBy house.old.accounts (run (M.meaning model.now) (standing house.old.market.state records.old trades.old) (take i events.now)) }
 {
     let count = events.len().min(answers.len());
     for i in 0..count {

@@ -1,7 +1,8 @@
-use Rattle.std.proofs.Common.{◌≡◌, true, length, take, drop}
+use Rattle.std.proofs.Common.{◌≡◌, ℕ, ◌≤◌, true, length, take, drop}
 use Rattle.tables.specs.Limits.{tables_keep}
 use Rattle.rules.specs.Stands.{standing}
 use Rattle.isolation.specs.Runs.{run, replies}
+use Rattle.calls.specs.Promises.{HeldBy}
 use Rattle.calls.proofs.replay.play_events.Given as goal
 
 abbrev pub invariant-loop-i : goal.invariant-loop-i
@@ -11,3 +12,4 @@ invariant-loop-i g l =
     × (standing l.house.market.state l.records l.trades ≡ run (g.M.MarginModel.meaning l.model) (standing l.initial.house.market.state l.initial.records l.initial.trades) (take l.i l.events))
     × (take l.i l.answers ≡ replies (g.M.MarginModel.meaning l.model) (standing l.initial.house.market.state l.initial.records l.initial.trades) (take l.i l.events))
     × (drop l.i l.answers ≡ drop l.i l.initial.answers)
+    × ((j : ℕ) → j ≤ l.i → HeldBy l.initial.house.accounts (run (g.M.MarginModel.meaning l.model) (standing l.initial.house.market.state l.initial.records l.initial.trades) (take j l.events)))

@@ -24,6 +24,7 @@ returns-then-not-tables_keep g c =
         tables = λ yes'. absurd (true≢false (sym yes' ∙ h));
         wrong = λ _. (refl, refl, refl);
         keeps = refl;
+        throughout = λ yes'. absurd (true≢false (sym yes' ∙ h));
         isolated = isolated_run m s (take 0 c.args.events.now) (take 0 c.args.answers.now) s refl refl;
       };
     }
@@ -52,6 +53,7 @@ returns g c =
         tables = λ _. (sym (rows_stand l n us vs some e.keeps) ∙ ap rows_of e.stands, sym (trades_stand l n us vs some e.keeps) ∙ ap trades_of e.stands);
         wrong = λ no'. absurd (true≢false (sym h ∙ no'));
         keeps = e.keeps ∙ sym h;
+        throughout = λ _. e.throughout;
         isolated = isolated_run m s (take r c.args.events.now) (take r c.play_events.new.answers) (standing l us vs) e.replied e.stands;
       };
     }
