@@ -1,35 +1,40 @@
 -- An event file played on a house of its own.
 -- opening_number: the number of an opening whose tables have the right lengths.
--- opening_in: the number of the opening of a file, if there is one. answers_in: the answers to the records after an accepted opening.
+-- opening_in: the number of the opening of a file, if there is one. answers_in: the answers to the records after an accepted opening. answer_in: the answer in a reply.
 -- IsolatedFile: the isolation of the run. Plays: the number and the answers of played records, and their isolation. IsFileRun: what the run of a file holds: its records, its fault and its answers.
-use Rattle.std.specs.Prelude.{◌≡◌, ℕ, cond, List, [], ◌∷◌, Some, None, vec_items, Option, ◌==◌}
+use Rattle.std.specs.Prelude.{◌≡◌, ℕ, cond, List, [], ◌∷◌, map, Some, None, vec_items, Option, ◌==◌}
 use Rattle.models.specs.Meaning.{Meaning}
 use Rattle.events.specs.Files.{events_of, fault_of}
-use Rattle.events.specs.declared.event.Event.{Event as FileEvent}
+use Rattle.events.specs.declared.event.Event.{Event}
 use Rattle.events.specs.declared.event.Event.TheVariants.{Open, Trade, LodgeCash, DrawCash}
-use Rattle.rules.specs.Opening.{opening_questions, opened_rows, opened_trades}
+use Rattle.rules.specs.Opening.{opening_questions, opened_market, opened_rows, opened_trades}
 use Rattle.refusals.specs.Refusals.{first_no, result_number}
-use Rattle.isolation.specs.Runs.{run, replies, opened}
-use Rattle.calls.specs.Promises.{IsolatedDay}
+use Rattle.rules.specs.Runs.{answers_run}
+use Rattle.rules.specs.declared.call.Answer.{Answer}
 use Rattle.rules.specs.declared.call.Reply.{Reply}
-use Rattle.eventrun.specs.Calls.{calls_in}
+use Rattle.rules.specs.declared.call.Reply.TheVariants.{Account as AccountReply, Market as MarketReply}
+use Rattle.rules.specs.Outcomes.{blank_answer}
+use Rattle.isolation.specs.Runs.{run, opened}
+use Rattle.calls.specs.Promises.{IsolatedDay}
+use Rattle.eventrun.specs.Calls.{calls_in, event_of}
 use Rattle.eventrun.specs.declared.play.FileRun.{FileRun}
-use Rattle.eventrun.specs.declared.play.FilePlayed.{FilePlayed}
+use Rattle.eventrun.specs.declared.play.Played.{Played}
 
 abbrev pub opening_number : ℕ → ℕ → ℕ
 opening_number n month = result_number (first_no (opening_questions n month (opened_rows n) (opened_trades n)))
 
-abbrev pub opening_in : List FileEvent → Option ℕ
+abbrev pub opening_in : List Event → Option ℕ
 opening_in [] = None
 opening_in (Open n month ∷ es) = Some (opening_number n month)
 opening_in (Trade a n b s m c t ∷ es) = None
 opening_in (LodgeCash a m ∷ es) = None
 opening_in (DrawCash a m ∷ es) = None
 
-abbrev pub answers_after : Meaning → ℕ → ℕ → List FileEvent → List Reply
-answers_after m n month es = cond (opening_number n month == 0) (replies m (opened month n) (calls_in es)) []
+abbrev pub answers_after : Meaning → ℕ → ℕ → List Event → List Answer
+answers_after m n month es =
+    cond (opening_number n month == 0) (answers_run m (opened_market month) n (opened_rows n, opened_trades n) (calls_in es)) []
 
-abbrev pub answers_in : Meaning → List FileEvent → List Reply
+abbrev pub answers_in : Meaning → List Event → List Answer
 answers_in m [] = []
 answers_in m (Open n month ∷ es) = answers_after m n month es
 answers_in m (Trade a n b s mo c t ∷ es) = []
@@ -37,14 +42,20 @@ answers_in m (LodgeCash a c ∷ es) = []
 answers_in m (DrawCash a c ∷ es) = []
 
 -- the run of a file that begins with an accepted opening is isolated
-abbrev pub IsolatedFile : Meaning → List FileEvent → List Reply → Type 0
+abbrev pub IsolatedFile : Meaning → List Event → List Answer → Type 0
 IsolatedFile m [] os = Unit {0}
-IsolatedFile m (Open n month ∷ es) os = opening_number n month ≡ 0 → IsolatedDay m month n (calls_in es) os (run m (opened month n) (calls_in es))
+IsolatedFile m (Open n month ∷ es) os =
+    opening_number n month ≡ 0 → IsolatedDay m month n (map event_of (calls_in es)) (map AccountReply os) (run m (opened month n) (map event_of (calls_in es)))
 IsolatedFile m (Trade a n b s mo c t ∷ es) os = Unit {0}
 IsolatedFile m (LodgeCash a c ∷ es) os = Unit {0}
 IsolatedFile m (DrawCash a c ∷ es) os = Unit {0}
 
-pub record Plays (m : Meaning) (es : List FileEvent) (p : FilePlayed) : Type 0 where
+-- the answer in the reply to an account call
+abbrev pub answer_in : Reply → Answer
+answer_in (AccountReply a) = a
+answer_in (MarketReply a) = blank_answer 0
+
+pub record Plays (m : Meaning) (es : List Event) (p : Played) : Type 0 where
   pub number : p.number ≡ opening_in es
   pub answers : vec_items p.answers ≡ answers_in m es
   pub isolated : IsolatedFile m es (vec_items p.answers)

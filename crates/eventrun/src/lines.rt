@@ -1,12 +1,12 @@
 // The lines that a run prints.
-use super::play::{FilePlayed, run_file};
+use super::play::{Played, run_file};
 use anyhow::anyhow;
 use events::event::Event;
 use events::fault::Fault;
 use models::check::check_table;
 use models::model::MarginModel;
 use models::table::TableModel;
-use rules::call::{Answer, MarketAnswer, Reply};
+use rules::call::Answer;
 use std::alloc::Global;
 use std::fmt::Write;
 
@@ -18,55 +18,40 @@ fn write_fault(text: &mut String, fault: Fault) -> anyhow::Result<()> {
     Ok(())
 }
 
-fn write_account(text: &mut String, answer: &Answer) -> anyhow::Result<()> {
+fn write_answer(
+    text: &mut String,
+    record: u64,
+    event: Event,
+    answer: &Answer,
+) -> anyhow::Result<()> {
+    let kind = event.kind().code();
     let number = answer.number;
     let obligation = answer.obligation;
     let available = answer.available;
     let shortfall = answer.shortfall;
     let restriction = answer.restriction;
-    writeln!(
-        text,
-        "{number} {obligation} {available} {shortfall} {restriction}"
-    )?;
+    write!(text, "{record} {kind} {number} ")?;
+    writeln!(text, "{obligation} {available} {shortfall} {restriction}")?;
     Ok(())
 }
 
-fn write_market(text: &mut String, answer: &MarketAnswer) -> anyhow::Result<()> {
-    let number = answer.number;
-    let set = answer.set;
-    let month = answer.month;
-    let overnight = answer.overnight;
-    let forward = answer.forward;
-    writeln!(text, "{number} {set} {month} {overnight} {forward}")?;
-    Ok(())
-}
-
-fn write_reply(text: &mut String, record: u64, event: Event, reply: &Reply) -> anyhow::Result<()> {
-    let kind = event.kind().code();
-    write!(text, "{record} {kind} ")?;
-    match reply {
-        Reply::Account(answer) => write_account(text, answer),
-        Reply::Market(answer) => write_market(text, answer),
-    }
-}
-
-fn write_replies(text: &mut String, records: &[Event], replies: &[Reply]) -> anyhow::Result<()> {
+fn write_answers(text: &mut String, records: &[Event], answers: &[Answer]) -> anyhow::Result<()> {
     let mut record = 2u64;
-    for (event, reply) in records.iter().zip(replies) {
-        write_reply(text, record, *event, reply)?;
+    for (event, answer) in records.iter().zip(answers) {
+        write_answer(text, record, *event, answer)?;
         record = record.saturating_add(1);
     }
     Ok(())
 }
 
 // The line of the opening, and after an accepted one a line for each later record. Gives whether the run goes on to a fault.
-fn write_played(text: &mut String, records: &[Event], played: &FilePlayed) -> anyhow::Result<bool> {
+fn write_played(text: &mut String, records: &[Event], played: &Played) -> anyhow::Result<bool> {
     let Some(number) = played.number else {
         return Ok(true);
     };
     writeln!(text, "1 1 {number}")?;
     let later = records.get(1..records.len()).unwrap_or(&[]);
-    write_replies(text, later, played.answers.as_slice())?;
+    write_answers(text, later, played.answers.as_slice())?;
     Ok(number == 0)
 }
 

@@ -1,27 +1,32 @@
 // An event file played: the opening, and then the account calls.
-ghost use Rattle.std.specs.Prelude.{◌≡◌, ◌∷◌, IfOk};
+ghost use Rattle.std.specs.Prelude.{◌≡◌, min, ◌∷◌, map, length, take, IfOk};
 ghost use Rattle.events.specs.declared.event.Event.TheVariants.{Open};
 ghost use Rattle.events.specs.Files.{events_of, fault_of};
-ghost use Rattle.eventrun.specs.Files.{Plays, IsFileRun};
+ghost use Rattle.refusals.specs.Refusals.{first_no, result_number};
+ghost use Rattle.rules.specs.Opening.{opening_questions, opened_market, opened_rows, opened_trades};
+ghost use Rattle.rules.specs.Runs.{answers_run};
+ghost use Rattle.eventrun.specs.Files.{answer_in, Plays, IsFileRun};
 
-use super::calls::calls_in;
-use calls::play::play;
+use super::calls::{calls_in, events_in};
+use calls::play::play as play_day;
 use events::event::Event;
 use events::fault::Fault;
 use events::reading::{MOST_EVENTS, read_all};
+use house::listing::answer_all;
 use models::model::MarginModel;
-use opening::opening::{empty_row, unopened};
-use rules::call::{Answer, Reply};
+use opening::opening::{empty_row, open, unopened};
+use rules::call::{Answer, NamedCall, Reply};
+use rules::house::House;
 use std::alloc::{AllocError, Global};
-use tables::row::NO_TRADE;
+use tables::row::{AccountRow, NO_TRADE, TradeRow};
 
-const NO_REPLY: Reply = Reply::Account(Answer {
+const NO_ANSWER: Answer = Answer {
     number: 0,
     restriction: 0,
     obligation: 0,
     available: 0,
     shortfall: 0,
-});
+};
 
 // The records of a file up to its first fault, and that fault.
 #[derive(Drop)]
@@ -32,16 +37,58 @@ pub struct Found {
 
 // The number of the opening, if there is one, and the answers to the records after an accepted one.
 #[derive(Drop)]
-pub struct FilePlayed {
+pub struct Played {
     pub number: Option<u8>,
-    pub answers: Vec<Reply>,
+    pub answers: Vec<Answer>,
 }
 
 // A file that was read and played.
 #[derive(Drop)]
 pub struct FileRun {
     pub found: Found,
-    pub played: FilePlayed,
+    pub played: Played,
+}
+
+// Opens the house, and answers the calls on it in turn. Gives the number of the opening; after a refused one no call is answered.
+pub fn open_and_answer<M: MarginModel>(
+    model: &M,
+    house: &mut House,
+    accounts: u32,
+    month: u16,
+    records: &mut [AccountRow],
+    trades: &mut [TradeRow],
+    calls: &[NamedCall],
+    answers: &mut [Answer],
+) -> u8
+    ensures number { result ≡ result_number (first_no (opening_questions accounts month records.old trades.old)) }
+    ensures answers { result ≡ 0 → take (min (length calls.now) (length answers.old)) answers.new ≡ answers_run (M.meaning model.now) (opened_market month) accounts (opened_rows accounts, opened_trades accounts) (take (min (length calls.now) (length answers.old)) calls.now) }
+{
+    let number = open(house, accounts, month, records, trades);
+    if number == 0 {
+        let _ = answer_all(house, model, records, trades, calls, answers);
+    }
+    number
+}
+
+// The answer in a reply; a market's reply has none.
+fn answer_in(reply: Reply) -> Answer
+    ensures { result ≡ answer_in reply }
+{
+    match reply {
+        Reply::Account(answer) => answer,
+        Reply::Market(_) => NO_ANSWER,
+    }
+}
+
+// The answers in the replies, in their order.
+fn answers_of(heap: Global, replies: &[Reply]) -> Result<Vec<Answer>, AllocError>
+    ensures { IfOk result (λ v. v.items ≡ map answer_in replies.now) }
+{
+    let mut answers: Vec<Answer> = Vec::new(heap);
+    for reply in replies {
+        answers.push(answer_in(*reply))?;
+    }
+    Ok(answers)
 }
 
 // Reads an event file.
@@ -68,31 +115,33 @@ fn play_opened<M: MarginModel>(
     accounts: u8,
     month: u16,
     later: &[Event],
-) -> Result<FilePlayed, AllocError>
+) -> Result<Played, AllocError>
     ensures { IfOk result (λ p. Plays (M.meaning model.now) (Open accounts month ∷ later.now) p) }
 {
     let calls = calls_in(heap, later)?;
-    let mut answers = vec![in heap; NO_REPLY; calls.len()]?;
+    let events = events_in(heap, calls.as_slice())?;
+    let mut replies = vec![in heap; Reply::Account(NO_ANSWER); events.len()]?;
     let mut rows = vec![in heap; empty_row(); accounts as usize]?;
     let mut places = vec![in heap; NO_TRADE; 64 * accounts as usize]?;
     let mut house = unopened();
-    let day = play(
+    let day = play_day(
         &mut house,
         model,
         accounts as u32,
         month,
         &mut rows,
         &mut places,
-        calls.as_slice(),
-        &mut answers,
+        events.as_slice(),
+        &mut replies,
     );
     if day.number != 0 {
-        return Ok(FilePlayed {
+        return Ok(Played {
             number: Some(day.number),
             answers: Vec::new(heap),
         });
     }
-    Ok(FilePlayed {
+    let answers = answers_of(heap, replies.as_slice())?;
+    Ok(Played {
         number: Some(day.number),
         answers,
     })
@@ -104,12 +153,12 @@ fn play_from<M: MarginModel>(
     model: &M,
     first: Event,
     later: &[Event],
-) -> Result<FilePlayed, AllocError>
+) -> Result<Played, AllocError>
     ensures { IfOk result (λ p. Plays (M.meaning model.now) (first ∷ later.now) p) }
 {
     match first {
         Event::Open { accounts, month } => play_opened(heap, model, accounts, month, later),
-        _ => Ok(FilePlayed {
+        _ => Ok(Played {
             number: None,
             answers: Vec::new(heap),
         }),
@@ -117,16 +166,12 @@ fn play_from<M: MarginModel>(
 }
 
 // Plays the records of a file on a house of its own.
-pub fn play_records<M: MarginModel>(
-    heap: Global,
-    model: &M,
-    events: &[Event],
-) -> Result<FilePlayed, AllocError>
+pub fn play<M: MarginModel>(heap: Global, model: &M, events: &[Event]) -> Result<Played, AllocError>
     ensures { IfOk result (λ p. Plays (M.meaning model.now) events.now p) }
 {
     match events.first() {
         Some(first) => play_from(heap, model, *first, &events[1..]),
-        None => Ok(FilePlayed {
+        None => Ok(Played {
             number: None,
             answers: Vec::new(heap),
         }),
@@ -142,6 +187,6 @@ pub fn run_file<M: MarginModel>(
     ensures { IfOk result (λ f. IsFileRun (M.meaning model.now) bytes.now f) }
 {
     let found = read_file(heap, bytes)?;
-    let played = play_records(heap, model, found.events.as_slice())?;
+    let played = play(heap, model, found.events.as_slice())?;
     Ok(FileRun { found, played })
 }

@@ -1,7 +1,7 @@
 -- Reading back what is encoded.
 use Rattle.std.proofs.Common.{◌≡◌, ℕ, zero, suc, ◌+◌, ◌*◌, ◌/◌, ◌%◌, ◌<◌, ◌≤◌, Bool, true, false, eqb, List, [], ◌∷◌, length, get_or, drop, Some, None, Ok, sym, refl, ap, ◌∙◌, arith, length-drop, le-ltb, eq-eqb, ne_eqb}
 use Rattle.std.proofs.lemmas.List.{get_or-drop, drop-drop}
-use Rattle.std.specs.List.{AllByRecursion as All}
+use Rattle.std.specs.List.{AllByRecursion}
 use Rattle.events.specs.Numbers.{u8_at, u16_at, u32_at, u64_at}
 use Rattle.events.specs.Kinds.{kind_of, length_of}
 use Rattle.events.specs.Record.{event_at}
@@ -138,7 +138,7 @@ one_more bs i n f e es s m = (
   ap (λ z. fault_with z (fault_from f bs (i + size_of z) (n + 1))) s ∙ m.1,
 )
 
-later_events : (bs : List ℕ) (i n f : ℕ) (es : List Event) → length bs ≤ 65536 → drop i bs ≡ encode_all es → i ≤ length bs → Later es → All Fits es → 1 ≤ n → length es < f
+later_events : (bs : List ℕ) (i n f : ℕ) (es : List Event) → length bs ≤ 65536 → drop i bs ≡ encode_all es → i ≤ length bs → Later es → AllByRecursion Fits es → 1 ≤ n → length es < f
     → (events_from f bs i n ≡ es) × (fault_from f bs i n ≡ None)
 later_events bs i n zero es most h le l w some lt = absurd (omega arith)
 later_events bs i n (suc f) [] most h le l w some lt = at_end bs i n f most h le
@@ -154,7 +154,7 @@ many (Trade a m b s y c p ∷ es) = omega (arith, many es)
 many (LodgeCash a m ∷ es) = omega (arith, many es)
 many (DrawCash a m ∷ es) = omega (arith, many es)
 
-all_events : (bs : List ℕ) (f : ℕ) (es : List Event) → length bs ≤ 65536 → bs ≡ encode_all es → Opened es → All Fits es → length es < f
+all_events : (bs : List ℕ) (f : ℕ) (es : List Event) → length bs ≤ 65536 → bs ≡ encode_all es → Opened es → AllByRecursion Fits es → length es < f
     → (events_from f bs 0 0 ≡ es) × (fault_from f bs 0 0 ≡ None)
 all_events bs zero es most h o w lt = absurd (omega arith)
 all_events bs (suc f) [] most h o w lt = at_end bs 0 0 f most h (omega arith)

@@ -1,7 +1,7 @@
 -- Where the events of a file end, and where its fault stands.
 use Rattle.std.proofs.Common.{◌≡◌, ℕ, zero, suc, ◌+◌, ◌<◌, ◌≤◌, Bool, true, false, cond, not, eqb, ltb, List, [], ◌∷◌, ◌++◌, length, get_or, take, drop, Some, None, Ok, Err, Option, Result, sym, refl, ap, ◌∙◌, subst, arith, ltb-false, lt-ltb, ne_eqb, eqb-true}
 use Rattle.std.proofs.lemmas.List.{take_at, drop_all}
-use Rattle.std.specs.List.{AllByRecursion as All}
+use Rattle.std.specs.List.{AllByRecursion}
 use Rattle.events.specs.Kinds.{length_of, opens, event_kind}
 use Rattle.events.specs.Faults.{too_long}
 use Rattle.events.specs.Steps.{in_turn, head_at, step_by, step_at, size_of}
@@ -82,12 +82,12 @@ module _ (bs : List ℕ) (byte : (k : ℕ) → get_or bs k 0 < 256) where
   placed_from (suc steps) i n most le lt =
       placed_step i n (step_at bs i n) _ _ most le refl (λ far some. placed_from steps (i + size_of (step_at bs i n)) (n + 1) most far (omega arith))
 
-  fits_step : (i n : ℕ) (s : Step) (es : List Event) → step_at bs i n ≡ s → All Fits es → All Fits (events_with s es)
+  fits_step : (i n : ℕ) (s : Step) (es : List Event) → step_at bs i n ≡ s → AllByRecursion Fits es → AllByRecursion Fits (events_with s es)
   fits_step i n End es h w = tt
   fits_step i n (Fault f) es h w = tt
   fits_step i n (Record e) es h w = (subst Fits (stands bs i n e h).event (fits_at bs i byte (event_kind e)), w)
 
-  fits_from : (steps i n : ℕ) → All Fits (events_from steps bs i n)
+  fits_from : (steps i n : ℕ) → AllByRecursion Fits (events_from steps bs i n)
   fits_from zero i n = tt
   fits_from (suc steps) i n = fits_step i n (step_at bs i n) _ refl (fits_from steps (i + size_of (step_at bs i n)) (n + 1))
 
@@ -137,7 +137,7 @@ short_from bs e =
     short_by bs (ltb 65536 (length bs)) (length bs) refl (ap (λ z. fault_from z bs 0 0) (sym s) ∙ e)
 
 module _ (bs : List ℕ) (byte : (k : ℕ) → get_or bs k 0 < 256) where
-  pub no_fault_by : fault_of bs ≡ None → (encode_all (events_of bs) ≡ bs) × Opened (events_of bs) × All Fits (events_of bs)
+  pub no_fault_by : fault_of bs ≡ None → (encode_all (events_of bs) ≡ bs) × Opened (events_of bs) × AllByRecursion Fits (events_of bs)
   no_fault_by h =
       let p = subst (λ o. Placed bs 0 0 (events_of bs) o) h (placed_of bs byte (short_from bs h)) in
       (sym p, opened_from bs byte (length bs + 1), fits_from bs byte (length bs + 1) 0 0)

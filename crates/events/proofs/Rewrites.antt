@@ -1,7 +1,7 @@
 -- Encoding again what was read.
 use Rattle.std.proofs.Common.{◌≡◌, ℕ, zero, suc, ◌+◌, ◌*◌, ◌/◌, ◌%◌, ◌<◌, ◌≤◌, List, [], ◌∷◌, length, get_or, drop, sym, refl, ap, ◌∙◌, arith}
 use Rattle.std.proofs.lemmas.List.{get_or_past, drop_more}
-use Rattle.std.specs.List.{AllByRecursion as All}
+use Rattle.std.specs.List.{AllByRecursion}
 use Rattle.events.specs.Numbers.{u8_at, u16_at, u32_at, u64_at}
 use Rattle.events.specs.Kinds.{code_of, length_of}
 use Rattle.events.specs.Record.{event_at}
@@ -34,7 +34,7 @@ unrolled bs i j (suc k) le =
     drop_more bs (i + j) 0 (omega arith) ∙ ap (λ z. get_or bs (i + j) 0 ∷ drop z bs) e ∙ ap (λ z. get_or bs (i + j) 0 ∷ z) m
     ∙ ap (λ z. get_or bs (i + j) 0 ∷ window bs i (j + 1) k (drop z bs)) d
 
-pub each_byte : (bs : List ℕ) → All (λ b. b < 256) bs → (k : ℕ) → get_or bs k 0 < 256
+pub each_byte : (bs : List ℕ) → AllByRecursion (λ b. b < 256) bs → (k : ℕ) → get_or bs k 0 < 256
 each_byte [] h k = omega (arith, get_or_past {X = ℕ} [] k 0 (omega arith))
 each_byte (b ∷ bs) h zero = h.0
 each_byte (b ∷ bs) h (suc k) = each_byte bs h.1 k

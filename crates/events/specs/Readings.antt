@@ -1,7 +1,7 @@
 -- A whole file, read into a room for events.
 --   ReadInto     what a reading says, and what it makes of the room
 use Rattle.std.specs.Prelude.{◌≡◌, ℕ, ◌+◌, ◌<◌, ◌≤◌, min, false, cond, List, length, take, drop, Some, None, nat_lt}
-use Rattle.std.specs.List.{AllByRecursion as All}
+use Rattle.std.specs.List.{AllByRecursion}
 use Rattle.events.specs.Encoded.{encode_all, Fits, Opened}
 use Rattle.events.specs.Faults.{too_long}
 use Rattle.events.specs.Files.{events_of, fault_of}
@@ -28,7 +28,7 @@ pub record ReadInto (bytes : List ℕ) (before after : List Event) (r : Reading)
   -- of a file that is too long nothing is read
   pub overlong : 65536 < length bytes → (r.count ≡ 0) × (r.fault ≡ Some too_long)
   -- a file that is encoded from events is read as those events
-  pub decodes : (es : List Event) → bytes ≡ encode_all es → Opened es → All Fits es → length bytes ≤ 65536 → r.full ≡ false
+  pub decodes : (es : List Event) → bytes ≡ encode_all es → Opened es → AllByRecursion Fits es → length bytes ≤ 65536 → r.full ≡ false
       → (take r.count after ≡ es) × (r.fault ≡ None)
   -- what was read with no fault encodes to the file
   pub encodes : r.full ≡ false → r.fault ≡ None → encode_all (take r.count after) ≡ bytes

@@ -2,7 +2,7 @@
 use Rattle.std.proofs.Common.{◌≡◌, ℕ, suc, ◌+◌, ◌-◌, ◌*◌, ◌≤◌, Bool, true, false, List, [], ◌∷◌, ◌++◌, map, length, get_or, take, drop, set, fold, sum_by, sym, refl, ap, ◌∙◌, ap₂, append-nil, arith, take_all}
 use lib.ListN.{length-map}
 use borrow.Rule.Slice.PartMut.{put_mid}
-use Rattle.std.specs.List.{AllByRecursion as All}
+use Rattle.std.specs.List.{AllByRecursion}
 use Rattle.std.proofs.lemmas.List.{drop_all}
 use Rattle.models.specs.Meaning.{Meaning}
 use Rattle.tables.specs.declared.row.AccountRow.{AccountRow}
@@ -49,11 +49,11 @@ put_rest h cs ys = ap (λ (l : List AccountRow). h ∷ l) (ap (λ (l : List Acco
 short_fits : (b : Book) → constituent_keeps b ≡ true → b.row.shortfall ≤ 3000000000000000
 short_fits b h = (figured 3000000000000000 b.row (booked 3000000000000000 b h).figures).shortfall
 
-rows_all : (P : AccountRow → Type 0) (cs : List AccountRow) (us : List TradeRow) → All (λ b. P b.row) (books_of cs us) → All P cs
+rows_all : (P : AccountRow → Type 0) (cs : List AccountRow) (us : List TradeRow) → AllByRecursion (λ b. P b.row) (books_of cs us) → AllByRecursion P cs
 rows_all P [] us h = tt
 rows_all P (c ∷ cs) us h = (h.0, rows_all P cs (drop 64 us) h.1)
 
-pub shortfalls_fit : (n : ℕ) (rs : List AccountRow) (ts : List TradeRow) → tables_keep n rs ts ≡ true → All (λ r. r.shortfall ≤ 3000000000000000) (drop 1 rs)
+pub shortfalls_fit : (n : ℕ) (rs : List AccountRow) (ts : List TradeRow) → tables_keep n rs ts ≡ true → AllByRecursion (λ r. r.shortfall ≤ 3000000000000000) (drop 1 rs)
 shortfalls_fit n [] ts h = tt
 shortfalls_fit n (r ∷ rs) ts h =
     rows_all (λ q. q.shortfall ≤ 3000000000000000) rs (drop 64 ts)

@@ -1,7 +1,7 @@
 // Settling over the tables: one account; then cover, house and second flags.
 ghost use Rattle.std.specs.Prelude.{◌≡◌, ◌+◌, ◌*◌, ◌≤◌, true, false, ◌∷◌, map, length, take, drop, sum_by, slice_index_or};
 ghost use Rattle.tables.specs.Books.{books_of, places_at, no_book};
-ghost use Rattle.std.specs.List.{AllByRecursion as All};
+ghost use Rattle.std.specs.List.{AllByRecursion};
 ghost use Rattle.tables.specs.Limits.{holdings_keep, places_keep, figures_keep, tables_keep};
 ghost use Rattle.rules.specs.Rows.{with_second};
 ghost use Rattle.rules.specs.Settling.{settled_row, settled, row_reflagged};
@@ -20,7 +20,7 @@ use tables::standing::StandingTrades;
 // The sum of shortfalls.
 pub(crate) fn sum_shortfalls(rows: &[AccountRow]) -> u64
     requires few { length rows.now ≤ 31 }
-    requires each { All (λ r. r.shortfall ≤ 3000000000000000) rows.now }
+    requires each { AllByRecursion (λ r. r.shortfall ≤ 3000000000000000) rows.now }
     ensures value { result ≡ sum_by (λ q. q.shortfall) rows.now }
     ensures bound { result ≤ 93000000000000000 }
 {

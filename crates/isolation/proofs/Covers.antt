@@ -1,6 +1,6 @@
 -- The cover is the sum of what the constituents lack, and the house's obligation carries it.
 use Rattle.std.proofs.Common.{◌≡◌, ℕ, zero, suc, ◌+◌, ◌<◌, ◌≤◌, Bool, false, ◌⊎◌, List, [], ◌∷◌, map, length, get_or, set, Ok, Err, fold, Result, sym, refl, ap, ◌∙◌, subst, inl, inr}
-use Rattle.std.specs.List.{AllByRecursion as All}
+use Rattle.std.specs.List.{AllByRecursion}
 use Rattle.std.proofs.lemmas.Bool.{cases_lt}
 use Rattle.models.specs.Meaning.{Meaning}
 use Rattle.refusals.specs.declared.refusal.Refusal.{Refusal}
@@ -27,17 +27,17 @@ abbrev IsShort : Book → Type 0
 IsShort b = b.row.shortfall ≡ lacking b
 
 abbrev pub Short : Stand → Type 0
-Short s = All IsShort s.constituents
+Short s = AllByRecursion IsShort s.constituents
 
-flagged_short : (r : Bool) (bs : List Book) → All IsShort bs → All IsShort (map (reflagged r) bs)
+flagged_short : (r : Bool) (bs : List Book) → AllByRecursion IsShort bs → AllByRecursion IsShort (map (reflagged r) bs)
 flagged_short r [] h = tt
 flagged_short r (b ∷ bs) h = (h.0, flagged_short r bs h.1)
 
-each_short : (f : Book → Book) → ((b : Book) → IsShort (f b)) → (bs : List Book) → All IsShort (map f bs)
+each_short : (f : Book → Book) → ((b : Book) → IsShort (f b)) → (bs : List Book) → AllByRecursion IsShort (map f bs)
 each_short f g [] = tt
 each_short f g (b ∷ bs) = (g b, each_short f g bs)
 
-put_short : (bs : List Book) (i : ℕ) (x : Book) → IsShort x → All IsShort bs → All IsShort (set bs i x)
+put_short : (bs : List Book) (i : ℕ) (x : Book) → IsShort x → AllByRecursion IsShort bs → AllByRecursion IsShort (set bs i x)
 put_short [] i x p h = tt
 put_short (b ∷ bs) zero x p h = (p, h.1)
 put_short (b ∷ bs) (suc i) x p h = (h.0, put_short bs i x p h.1)
@@ -84,7 +84,7 @@ pub short_run : (m : Meaning) (s : Stand) (es : List Event) → Short s → Shor
 short_run m s [] h = h
 short_run m s (e ∷ es) h = short_run m (after m s e) es (short_after m s e h)
 
-same_sum : (bs : List Book) (n : ℕ) → All IsShort bs → fold (λ (x : ℕ) (b : Book). x + b.row.shortfall) n bs ≡ fold (λ (x : ℕ) (b : Book). x + lacking b) n bs
+same_sum : (bs : List Book) (n : ℕ) → AllByRecursion IsShort bs → fold (λ (x : ℕ) (b : Book). x + b.row.shortfall) n bs ≡ fold (λ (x : ℕ) (b : Book). x + lacking b) n bs
 same_sum [] n h = refl
 same_sum (b ∷ bs) n h =
     ap (λ (x : ℕ). fold (λ (y : ℕ) (c : Book). y + c.row.shortfall) (n + x) bs) h.0 ∙ same_sum bs (n + lacking b) h.1

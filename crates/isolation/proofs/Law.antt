@@ -3,7 +3,7 @@ use Rattle.std.proofs.Common.{◌≡◌, ℕ, zero, suc, ◌+◌, ◌<◌, ◌�
 use mathlib.Core.Path.{fun_ext}
 use mathlib.Core.Bool.{beq}
 use lib.ListN.{length-replicate}
-use Rattle.std.specs.List.{AllByRecursion as All}
+use Rattle.std.specs.List.{AllByRecursion}
 use Rattle.models.specs.Meaning.{Meaning}
 use Rattle.tables.specs.Books.{Book, no_book}
 use Rattle.rules.specs.declared.call.Event.{Event}
@@ -49,7 +49,7 @@ opened_length month (suc n) some =
     let e : length (opened month (suc n)).constituents ≡ n = ap (λ (s : Stand). length s.constituents) (opened_is month (suc n)) ∙ length-replicate n empty_book in
     omega arith
 
-short_empty : (n : ℕ) → All (λ (b : Book). b.row.shortfall ≡ lacking b) (replicate n empty_book)
+short_empty : (n : ℕ) → AllByRecursion (λ (b : Book). b.row.shortfall ≡ lacking b) (replicate n empty_book)
 unfolding empty_row
 short_empty zero = tt
 short_empty (suc n) = (refl, short_empty n)

@@ -1,6 +1,6 @@
 // What lodged securities count for.
 ghost use Rattle.std.specs.Prelude.{◌≡◌, ◌*◌, ◌≤◌, true, length};
-ghost use Rattle.std.specs.List.{AllByRecursion as All};
+ghost use Rattle.std.specs.List.{AllByRecursion};
 ghost use Rattle.tables.specs.Collateral.{lots_value};
 ghost use Rattle.tables.specs.Limits.{security_keeps};
 ghost use Rattle.tables.specs.Lists.{all_by};
@@ -23,8 +23,8 @@ fn row_value(lots: u32, row: SecurityRow) -> u64
 
 // What the lots of the 32 securities count for.
 pub(crate) fn securities_value(lots: &[u32], securities: &[SecurityRow]) -> u64
-    requires lots { (length lots.now ≡ 32) × (All (λ n. n ≤ 1000000) lots.now) }
-    requires securities { (length securities.now ≡ 32) × (All (λ s. security_keeps s ≡ true) securities.now) }
+    requires lots { (length lots.now ≡ 32) × (AllByRecursion (λ n. n ≤ 1000000) lots.now) }
+    requires securities { (length securities.now ≡ 32) × (AllByRecursion (λ s. security_keeps s ≡ true) securities.now) }
     ensures value { result ≡ securities_of lots.now securities.now }
     ensures bound { result ≤ 96000000000000 }
 {

@@ -1,6 +1,6 @@
 -- What the limits of a market state tell, each fact under its name.
 use Rattle.std.proofs.Common.{◌≡◌, ◌≤◌, true, leb, rules}
-use Rattle.std.specs.List.{AllByRecursion as All}
+use Rattle.std.specs.List.{AllByRecursion}
 use Rattle.std.proofs.lemmas.Bool.{and_parts, leb-true}
 use Rattle.tables.specs.declared.codes.Family.{Family}
 use Rattle.tables.specs.declared.codes.Family.TheVariants.{Overnight, Forward}
@@ -20,7 +20,7 @@ pub record Orderly (k : MarketState) : Type 0 where
   pub month : k.day.month ≤ 1199
   pub stepped : k.percent ≤ 100
   pub family : (f : Family) → FamilyOrderly (family_state k f)
-  pub priced : All (λ s. security_keeps s ≡ true) k.securities
+  pub priced : AllByRecursion (λ s. security_keeps s ≡ true) k.securities
 
 family_orderly : (f : FamilyState) → family_keeps f ≡ true → FamilyOrderly f
 family_orderly f h = search rules

@@ -1,12 +1,12 @@
 -- What a list of questions tells, and that no refusal has the number 0.
 use Rattle.std.proofs.Common.{◌≡◌, ℕ, true, false, List, [], ◌∷◌, Ok, refl, arith}
-use Rattle.std.specs.List.{AllByRecursion as All}
+use Rattle.std.specs.List.{AllByRecursion}
 use Rattle.refusals.specs.declared.refusal.Refusal.{Refusal}
 use Rattle.refusals.specs.declared.refusal.Refusal.TheVariants.{Tables, NoAccount, WrongBenchmark, WrongSide, WrongNotional, WrongRate, WrongMaturity, NumberUsed, TooManyTrades, NotLower, NotCovered, NoTrade, WrongAmount, OverLimit, NotHeld, DrawnShort, NoSecurity, WrongLots, NoSet, WrongPrice, WrongStepUp, NoFamily, WrongAverages, WrongThresholds, WrongReturns, NoThresholds, WrongSlot, WrongMonth, WrongAccounts, WrongOpeningMonth}
 use Rattle.refusals.specs.Refusals.{Question, first_no, number_of}
 
 -- where no question is answered no, each is answered yes
-pub all_yes : (qs : List Question) → first_no qs ≡ Ok tt → All (λ q. q.0 ≡ true) qs
+pub all_yes : (qs : List Question) → first_no qs ≡ Ok tt → AllByRecursion (λ q. q.0 ≡ true) qs
 all_yes [] e = tt
 all_yes ((true, r) ∷ qs) e = (refl, all_yes qs e)
 all_yes ((false, r) ∷ qs) e = absurd (let z : ◌≡◌ {A = ℕ} 0 1 = cc in omega arith)

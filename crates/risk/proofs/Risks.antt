@@ -1,6 +1,6 @@
 -- The losses over the scenarios, their tail and its size.
 use Rattle.std.proofs.Common.{◌≡◌, ℕ, ◌+◌, ◌-◌, ◌*◌, ◌<◌, ◌≤◌, true, List, [], ◌∷◌, ◌++◌, length, get_or, take, ℤ, pos, ◌*ℤ◌, nat_abs, sym, refl, ap, ◌∙◌, subst, ⊎_elim, mul-zero, arith}
-use Rattle.std.specs.List.{ContainsAt as Has, AllByRecursion as All}
+use Rattle.std.specs.List.{ContainsAt, AllByRecursion}
 use Rattle.std.proofs.lemmas.Int.{ints}
 use Rattle.std.proofs.lemmas.Bool.{cases_lt}
 use Rattle.std.proofs.lemmas.List.{get_or_default, get_or_past, take_all}
@@ -73,15 +73,15 @@ module _ (m : Meaning) (d : Day) (ts : List TradeRow) where
       }
 
   -- what holds of 0 and of each loss holds of the lowest of the tail
-  tail_has : (P : ℤ → Type 0) → P (pos 0) → All P (losses_of m d ts) → P (tail_loss m d ts)
+  tail_has : (P : ℤ → Type 0) → P (pos 0) → AllByRecursion P (losses_of m d ts) → P (tail_loss m d ts)
   unfolding tail_loss
   tail_has P nil each =
       let rs = ranked reaches_loss (losses_of m d ts) in
       let k = tail_size m.scenarios - 1 in
-      let all : All P rs = All-weaker (Has (losses_of m d ts)) P (λ z h. all-has P (losses_of m d ts) z each h) rs (among_ranked reaches_loss (losses_of m d ts)) in
+      let all : AllByRecursion P rs = All-weaker (ContainsAt (losses_of m d ts)) P (λ z h. all-has P (losses_of m d ts) z each h) rs (among_ranked reaches_loss (losses_of m d ts)) in
       ⊎_elim (λ lt. All-get_or P rs k (pos 0) lt all) (λ past. subst P (sym (get_or_past rs k (pos 0) past)) nil) (cases_lt k (length rs))
 
-  each_loss : (P : ℤ → Type 0) → ((j : ℕ) → P (loss_of m d j ts)) → All P (losses_of m d ts)
+  each_loss : (P : ℤ → Type 0) → ((j : ℕ) → P (loss_of m d j ts)) → AllByRecursion P (losses_of m d ts)
   each_loss P h = All-from_get_or P (losses_of m d ts) (pos 0) (λ j lt. subst P (sym (getD_losses j (pos 0) (omega (arith, length_losses)))) (h j))
 
 side_size : (s : Side) (z : ℤ) → nat_abs (negated_for_pay s z) ≡ nat_abs z
@@ -94,11 +94,11 @@ leg_most m d j t law fit =
     let e = side_size (side_of t.side) (pos t.notional *ℤ z) in
     omega (arith, e, times_most t.notional z fit.0 (law.change_most _ _ _ _))
 
-pub loss_most : (m : Meaning) (d : Day) (j : ℕ) (ts : List TradeRow) → Lawful m → All TradeFits ts → nat_abs (loss_of m d j ts) ≤ 2000000000000 * length ts
+pub loss_most : (m : Meaning) (d : Day) (j : ℕ) (ts : List TradeRow) → Lawful m → AllByRecursion TradeFits ts → nat_abs (loss_of m d j ts) ≤ 2000000000000 * length ts
 loss_most m d j ts law fits =
     sum_most (leg_of m d j) 2000000000000 ts (All-weaker TradeFits (λ t. nat_abs (leg_of m d j t) ≤ 2000000000000) (λ t fit. leg_most m d j t law fit) ts fits)
 
-pub var_most : (m : Meaning) (d : Day) (ts : List TradeRow) → Lawful m → All TradeFits ts → var_of m d ts ≤ 2000000000000 * length ts
+pub var_most : (m : Meaning) (d : Day) (ts : List TradeRow) → Lawful m → AllByRecursion TradeFits ts → var_of m d ts ≤ 2000000000000 * length ts
 unfolding var_of
 var_most m d ts law fits =
     let size : nat_abs (tail_loss m d ts) ≤ 2000000000000 * length ts = tail_has m d ts (λ z. nat_abs z ≤ 2000000000000 * length ts) (omega arith) (each_loss m d ts (λ z. nat_abs z ≤ 2000000000000 * length ts) (λ j. loss_most m d j ts law fits)) in

@@ -1,6 +1,6 @@
 -- Signed sums: one more, and how far from 0.
 use Rattle.std.proofs.Common.{◌≡◌, ℕ, ◌+◌, ◌*◌, ◌<◌, ◌≤◌, List, [], ◌∷◌, length, get_or, take, ℤ, pos, negsuc, ◌+ℤ◌, nat_abs, fold, sym, ap, ◌∙◌, arith, w64, SFits}
-use Rattle.std.specs.List.{AllByRecursion as All}
+use Rattle.std.specs.List.{AllByRecursion}
 use Rattle.std.proofs.lemmas.Int.{ints}
 use Rattle.std.proofs.lemmas.List.Sums.{fold_more}
 use Rattle.risk.specs.Signs.{signed_sum, gain_of, lost_of}
@@ -28,9 +28,9 @@ module _ {X : Type 0} (f : X → ℤ) where
       ∙ ap (λ z. signed_sum f (take i xs) +ℤ z) is
       ∙ sym (fold_more (λ a x. a +ℤ f x) (pos 0) xs i d within)
 
-  sum_from : (n : ℕ) (a : ℤ) (xs : List X) → All (λ x. nat_abs (f x) ≤ n) xs → nat_abs (fold (λ b x. b +ℤ f x) a xs) ≤ nat_abs a + n * length xs
+  sum_from : (n : ℕ) (a : ℤ) (xs : List X) → AllByRecursion (λ x. nat_abs (f x) ≤ n) xs → nat_abs (fold (λ b x. b +ℤ f x) a xs) ≤ nat_abs a + n * length xs
   sum_from n a [] h = omega arith
   sum_from n a (x ∷ xs) h = omega (arith, sum_from n (a +ℤ f x) xs h.1, size_add a (f x), h.0)
 
-  pub sum_most : (n : ℕ) (xs : List X) → All (λ x. nat_abs (f x) ≤ n) xs → nat_abs (signed_sum f xs) ≤ n * length xs
+  pub sum_most : (n : ℕ) (xs : List X) → AllByRecursion (λ x. nat_abs (f x) ≤ n) xs → nat_abs (signed_sum f xs) ≤ n * length xs
   sum_most n xs h = omega (arith, sum_from n (pos 0) xs h)

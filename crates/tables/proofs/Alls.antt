@@ -1,6 +1,6 @@
 -- A test of every element: the steps of a loop, and what it tells of one element.
 use Rattle.std.proofs.Common.{◌≡◌, ℕ, zero, suc, ◌+◌, ◌<◌, ◌≤◌, Bool, true, false, cond, ◌&&◌, List, [], ◌∷◌, ◌++◌, map, length, get_or, take, drop, set, replicate, filter, refl, ap, ◌∙◌, arith}
-use Rattle.std.specs.List.{AllByRecursion as All}
+use Rattle.std.specs.List.{AllByRecursion}
 use Rattle.std.proofs.lemmas.List.{at_drop_more, at_drop_all}
 use Rattle.std.proofs.lemmas.Bool.{and_from, and_parts, and_left}
 use Rattle.tables.specs.Lists.{all_by}
@@ -17,7 +17,7 @@ module _ {X : Type 0} (p : X → Bool) where
   all_by_all xs i h = at_drop_all (all_by p) xs i h
 
   -- what a test tells of each element
-  pub all_from : (P : X → Type 0) → ((x : X) → p x ≡ true → P x) → (xs : List X) → all_by p xs ≡ true → All P xs
+  pub all_from : (P : X → Type 0) → ((x : X) → p x ≡ true → P x) → (xs : List X) → all_by p xs ≡ true → AllByRecursion P xs
   all_from P tells [] h = tt
   all_from P tells (x ∷ xs) h = let both = and_parts (p x) (all_by p xs) h in (tells x both.0, all_from P tells xs both.1)
 

@@ -1,6 +1,6 @@
 -- What the limits of a record tell, each fact under its name.
 use Rattle.std.proofs.Common.{◌≡◌, ℕ, ◌≤◌, true, ◌&&◌, leb, List, take, drop, arith, length-take}
-use Rattle.std.specs.List.{AllByRecursion as All}
+use Rattle.std.specs.List.{AllByRecursion}
 use Rattle.std.proofs.lemmas.Bool.{and_parts, and_from, leb-true, le-leb}
 use Rattle.tables.specs.declared.row.AccountRow.{AccountRow}
 use Rattle.tables.specs.declared.row.TradeRow.{TradeRow}
@@ -14,7 +14,7 @@ pub record Held (r : AccountRow) : Type 0 where
   pub trades : r.trades ≤ 64
   pub overnight : levels_keep r.overnight ≡ true
   pub forward : levels_keep r.forward ≡ true
-  pub lots : All (λ n. n ≤ 1000000) r.lots
+  pub lots : AllByRecursion (λ n. n ≤ 1000000) r.lots
 
 pub held : (r : AccountRow) → holdings_keep r ≡ true → Held r
 held r h =

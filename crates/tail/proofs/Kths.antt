@@ -1,6 +1,6 @@
 -- The k-th of the entries from the highest down is the k-th highest.
 use Rattle.std.proofs.Common.{◌≡◌, ℕ, zero, suc, ◌+◌, ◌-◌, ◌<◌, ◌≤◌, min, Bool, true, false, cond, List, [], ◌∷◌, ◌++◌, length, get_or, take, fold, count_by, sym, refl, ap, ◌∙◌, subst, true≢false, arith}
-use Rattle.std.specs.List.{ContainsAt as Has, AllByRecursion as All}
+use Rattle.std.specs.List.{ContainsAt, AllByRecursion}
 use Rattle.std.proofs.lemmas.List.Sums.{sum_by-cons, fold_push}
 use Rattle.std.proofs.lemmas.List.{get_or-take, get_or_default, take_all, take_at, take_more, length_push, length-take-le}
 use Rattle.std.proofs.ByRecursion.{All-weaker, All-get_or, All-take, all_has_itself}
@@ -21,13 +21,13 @@ affirm false h = absurd (h refl)
 -- each entry is at least each later one
 abbrev pub Falls : {X : Type 0} → (X → X → Bool) → List X → Type 0
 Falls ge [] = Unit {0}
-Falls ge (y ∷ ys) = All (λ z. ge y z ≡ true) ys × Falls ge ys
+Falls ge (y ∷ ys) = AllByRecursion (λ z. ge y z ≡ true) ys × Falls ge ys
 
 module _ {X : Type 0} (p : X → Bool) where
   pub count_cons : (x : X) (xs : List X) → count_by p (x ∷ xs) ≡ one (p x) + count_by p xs
   count_cons x xs = sum_by-cons (λ y. one (p y)) x xs
 
-  pub count_none : (xs : List X) → All (λ x. p x ≡ false) xs → count_by p xs ≡ 0
+  pub count_none : (xs : List X) → AllByRecursion (λ x. p x ≡ false) xs → count_by p xs ≡ 0
   count_none [] h = refl
   count_none (x ∷ xs) h =
       let r : count_by p xs ≡ 0 = count_none xs h.1 in
@@ -39,10 +39,10 @@ module _ {X : Type 0} (p : X → Bool) where
   one_le false = omega arith
 
 module _ {X : Type 0} (ge : X → X → Bool) where
-  pub all_placed : (P : X → Type 0) (x : X) (ys : List X) → P x → All P ys → All P (placed ge x ys)
+  pub all_placed : (P : X → Type 0) (x : X) (ys : List X) → P x → AllByRecursion P ys → AllByRecursion P (placed ge x ys)
   all_placed P x [] h k = (h, tt)
   all_placed P x (y ∷ ys) h k =
-      elim (ge y x) as (λ b. All P (cond b (y ∷ placed ge x ys) (x ∷ y ∷ ys))) [
+      elim (ge y x) as (λ b. AllByRecursion P (cond b (y ∷ placed ge x ys) (x ∷ y ∷ ys))) [
         | true ↦ (k.0, all_placed P x ys h k.1)
         | false ↦ (h, k)
       ]
@@ -67,7 +67,7 @@ module _ {X : Type 0} (ge : X → X → Bool) where
   abbrev onto : List X → List X → List X
   onto acc xs = fold (λ ys x. placed ge x ys) acc xs
 
-  all_onto : (P : X → Type 0) (acc xs : List X) → All P acc → All P xs → All P (onto acc xs)
+  all_onto : (P : X → Type 0) (acc xs : List X) → AllByRecursion P acc → AllByRecursion P xs → AllByRecursion P (onto acc xs)
   all_onto P acc [] h k = h
   all_onto P acc (x ∷ xs) h k = all_onto P (placed ge x acc) xs (all_placed P x acc k.0 h) k.1
 
@@ -85,8 +85,8 @@ module _ {X : Type 0} (ge : X → X → Bool) where
   pub count_ranked : (p : X → Bool) (xs : List X) → count_by p (ranked ge xs) ≡ count_by p xs
   count_ranked p xs = omega (arith, count_onto p [] xs)
 
-  pub among_ranked : (xs : List X) → All (Has xs) (ranked ge xs)
-  among_ranked xs = all_onto (Has xs) [] xs tt (all_has_itself xs)
+  pub among_ranked : (xs : List X) → AllByRecursion (ContainsAt xs) (ranked ge xs)
+  among_ranked xs = all_onto (ContainsAt xs) [] xs tt (all_has_itself xs)
 
 module _ {X : Type 0} {ge : X → X → Bool} (o : Orders ge) where
   itself : (x : X) → ge x x ≡ true
@@ -127,7 +127,7 @@ module _ {X : Type 0} {ge : X → X → Bool} (o : Orders ge) where
   falls_few [] j l m f lt read no-reach = absurd (omega arith)
   falls_few (y ∷ ys) zero l m f lt read below =
       let e : ge y m ≡ false = subst (λ z. ge z m ≡ false) read below in
-      let none : All (λ z. ge z m ≡ false) ys = All-weaker (λ z. ge y z ≡ true) (λ z. ge z m ≡ false) (λ z up. refute (ge z m) (λ k. true≢false (sym (o.chain y z m up k) ∙ e))) ys f.0 in
+      let none : AllByRecursion (λ z. ge z m ≡ false) ys = All-weaker (λ z. ge y z ≡ true) (λ z. ge z m ≡ false) (λ z up. refute (ge z m) (λ k. true≢false (sym (o.chain y z m up k) ∙ e))) ys f.0 in
       let n : one (ge y m) ≡ 0 = ap one e in
       omega (arith, count_cons (λ x. ge x m) y ys, count_none (λ x. ge x m) ys none)
   falls_few (y ∷ ys) (suc j) l m f lt read below =
@@ -144,7 +144,7 @@ module _ {X : Type 0} {ge : X → X → Bool} (o : Orders ge) where
             let few = falls_few (ranked ge xs) (k - 1) l m f lt read below in
             let c = count_ranked ge (λ x. ge x m) xs in
             omega arith);
-        among = subst (Has xs) (sym read) (All-get_or (Has xs) (ranked ge xs) (k - 1) l lt (among_ranked ge xs));
+        among = subst (ContainsAt xs) (sym read) (All-get_or (ContainsAt xs) (ranked ge xs) (k - 1) l lt (among_ranked ge xs));
       }
 
 module _ {X : Type 0} (ge : X → X → Bool) where

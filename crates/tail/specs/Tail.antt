@@ -4,7 +4,7 @@
 -- Holds: what the keeper's places hold after some entries.
 -- Kth: the k-th highest. Short: there is none.
 use Rattle.std.specs.Prelude.{◌≡◌, ℕ, ◌<◌, ◌≤◌, min, Bool, true, false, cond, ◌⊎◌, List, [], ◌∷◌, length, take, ℤ, fold, count_by, int_le}
-use Rattle.std.specs.List.{ContainsAt as Has}
+use Rattle.std.specs.List.{ContainsAt}
 
 -- `ge x y` says that x is at least y: it compares any two, and two may tie
 pub record Orders {X : Type 0} (ge : X → X → Bool) : Type 0 where
@@ -35,7 +35,7 @@ count_at_least ge l xs = count_by (λ x. ge x l) xs
 pub record Kth {X : Type 0} (ge : X → X → Bool) (k : ℕ) (xs : List X) (l : X) : Type 0 where
   pub enough : k ≤ count_at_least ge l xs
   pub greatest : (m : X) → k ≤ count_at_least ge m xs → ge l m ≡ true
-  pub among : Has xs l
+  pub among : ContainsAt xs l
 
 -- there is no k-th highest
 abbrev pub Short : {X : Type 0} → ℕ → List X → Type 0

@@ -1,7 +1,7 @@
 use Rattle.std.proofs.Common.{List, ◌++◌, vec_items, sym, ap, ◌∙◌, append-nil}
 use Rattle.std.proofs.lemmas.List.{at_drop_all}
 use Rattle.events.specs.declared.event.Event.TheVariants.{Open}
-use Rattle.rules.specs.declared.call.Event.{Event}
+use Rattle.rules.specs.declared.call.NamedCall.{NamedCall}
 use Rattle.eventrun.specs.Calls.{calls_in}
 use Rattle.eventrun.proofs.Listed.{calls_more}
 use Rattle.eventrun.proofs.calls.calls_in.Goals as goal
@@ -14,5 +14,5 @@ loop-i-preserved c =
 pub returns : goal.returns
 returns c =
     sym (append-nil (vec_items c.loop-i.calls))
-    ∙ ap (λ (l : List Event). vec_items c.loop-i.calls ++ l) (sym (at_drop_all calls_in c.args.records.now c.loop-i.i c.loop-i-test.false))
+    ∙ ap (λ (l : List NamedCall). vec_items c.loop-i.calls ++ l) (sym (at_drop_all calls_in c.args.records.now c.loop-i.i c.loop-i-test.false))
     ∙ c.loop-i.invariant

@@ -1,5 +1,5 @@
 use Rattle.std.proofs.Common.{◌≡◌, ◌≤◌, length, sum_by, sym, ap, ◌∙◌, subst, arith, length-drop}
-use Rattle.std.specs.List.{AllByRecursion as All}
+use Rattle.std.specs.List.{AllByRecursion}
 use Rattle.std.proofs.lemmas.Bool.{eq-eqb, cond-true}
 use Rattle.tables.specs.declared.row.AccountRow.{AccountRow}
 use Rattle.tables.proofs.Books.{kept}
@@ -14,7 +14,7 @@ sum_shortfalls-requires c =
     let e = c.constituents.ensures in
     record {
       few = omega (arith, ap length e, length-drop 1 rs, c.args.house.now.few);
-      each = subst (All (λ (r : AccountRow). r.shortfall ≤ 3000000000000000)) (sym e) (shortfalls_fit n rs c.args.trades.now c.requires);
+      each = subst (AllByRecursion (λ (r : AccountRow). r.shortfall ≤ 3000000000000000)) (sym e) (shortfalls_fit n rs c.args.trades.now c.requires);
     }
 
 pub constituents-requires : goal.constituents-requires

@@ -1,5 +1,5 @@
 use Rattle.std.proofs.Common.{◌≡◌, ℕ, ◌≤◌, true, List, length, get_or, sum_by, sym, ap, ◌∙◌, subst, arith, length-drop}
-use Rattle.std.specs.List.{AllByRecursion as All}
+use Rattle.std.specs.List.{AllByRecursion}
 use Rattle.tables.specs.declared.row.AccountRow.{AccountRow}
 use Rattle.tables.specs.declared.row.TradeRow.{TradeRow}
 use Rattle.tables.specs.Books.{book, no_row, places_at}
@@ -22,7 +22,7 @@ sum_shortfalls-requires g c =
     let e = c.constituents.ensures in
     record {
       few = omega (arith, ap length e, length-drop 1 rs, c.args.house.now.few);
-      each = subst (All (λ (r : AccountRow). r.shortfall ≤ 3000000000000000)) (sym e) (shortfalls_fit n rs c.args.trades.now c.requires);
+      each = subst (AllByRecursion (λ (r : AccountRow). r.shortfall ≤ 3000000000000000)) (sym e) (shortfalls_fit n rs c.args.trades.now c.requires);
     }
 
 pub settle_own-own-requires : goal.settle_own-own-requires

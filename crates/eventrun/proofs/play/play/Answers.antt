@@ -2,7 +2,7 @@ use Rattle.std.proofs.Common.{◌≡◌, List, IfOk, subst, rules}
 use Rattle.events.specs.declared.event.Event.{Event}
 use Rattle.eventrun.specs.Files.{Plays}
 use Rattle.eventrun.proofs.Listed.{first_and_later}
-use Rattle.eventrun.proofs.play.play_records.Goals as goal
+use Rattle.eventrun.proofs.play.play.Goals as goal
 
 pub returns-in-Some : goal.returns-in-Some
 returns-in-Some g c =
