@@ -1,5 +1,5 @@
 -- Lists of events: one more event, and the isolation of a run.
-use Rattle.std.proofs.Common.{◌≡◌, ℕ, suc, ◌+◌, ◌<◌, ◌≤◌, min, Bool, true, cond, ⊎_elim, List, [], ◌∷◌, ◌++◌, map, length, get_or, take, drop, set, Ok, Err, Result, sym, refl, ap, ◌∙◌, subst, ap₂, arith}
+use Rattle.std.proofs.Common.{◌≡◌, ℕ, suc, ◌+◌, ◌<◌, ◌≤◌, min, true, ⊎_elim, List, [], ◌∷◌, ◌++◌, map, length, get_or, take, drop, set, Ok, Err, Result, sym, refl, ap, ◌∙◌, subst, ap₂, arith}
 use Rattle.std.proofs.lemmas.Bool.{cond-true, cases_lt}
 use Rattle.std.proofs.lemmas.List.{take_more, take_more_set, drop-set-lt, drop-drop}
 use Rattle.models.specs.Meaning.{Meaning}
@@ -17,8 +17,8 @@ use Rattle.rules.specs.Opening.{opened_market, opened_rows, opened_trades}
 use Rattle.rules.specs.Stands.{Stand, standing}
 use Rattle.house.proofs.Lent.{rows_stand, trades_stand}
 use Rattle.isolation.specs.Runs.{after, reply, run, replies, opened}
-use Rattle.isolation.specs.Views.{constituent_trace, house_trace, observed, own_replies}
-use Rattle.isolation.specs.Isolation.{Agree, book_of, Accounted, Covered}
+use Rattle.isolation.specs.Views.{observed, own_replies}
+use Rattle.isolation.specs.Isolation.{book_of, Accounted, Covered}
 use Rattle.isolation.proofs.Unwinding.{replies_observed, run_append, replies_append, own_append}
 use Rattle.isolation.proofs.Law.{constituents_isolated, house_isolated, accounted_run, covered_run}
 use Rattle.calls.specs.Promises.{Past, first_stand, IsolatedRun, HeldBy, Replays, IsolatedDay, Day}

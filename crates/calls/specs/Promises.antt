@@ -2,7 +2,7 @@
 -- AnswersCall: one call, on any tables. Past: an accepted opening and a list of events that led to a stand.
 -- IsolatedRun: the isolation of a run from a stand, whatever past led there. HeldBy: tables within their limits that hold a stand. Replays: a list of events, from where a house stands.
 -- IsolatedDay: the isolation of a run from an opening. PlaysDay: an opening, and a list of events after it.
-use Rattle.std.specs.Prelude.{◌≡◌, ℕ, suc, ◌<◌, ◌≤◌, min, Bool, true, false, cond, List, ◌++◌, length, take, drop, ◌≢◌}
+use Rattle.std.specs.Prelude.{◌≡◌, ℕ, suc, ◌<◌, ◌≤◌, min, true, false, cond, List, ◌++◌, length, take, drop, ◌≢◌}
 use Rattle.models.specs.Meaning.{Meaning}
 use Rattle.refusals.specs.Refusals.{first_no, result_number}
 use Rattle.tables.specs.declared.row.AccountRow.{AccountRow}

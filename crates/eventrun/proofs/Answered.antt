@@ -1,8 +1,6 @@
 -- Account calls one after the other, as events of a list: the replies are the answers.
-use Rattle.std.proofs.Common.{◌≡◌, ℕ, zero, suc, ◌≤◌, Bool, true, false, cond, List, [], ◌∷◌, map, length, take, sym, refl, ap, ◌∙◌, subst, ap₂, arith}
+use Rattle.std.proofs.Common.{◌≡◌, ℕ, suc, ◌≤◌, Bool, true, false, cond, List, [], ◌∷◌, map, length, take, sym, refl, ap, ◌∙◌, subst, ap₂, arith}
 use Rattle.models.specs.Meaning.{Meaning}
-use Rattle.tables.specs.declared.row.AccountRow.{AccountRow}
-use Rattle.tables.specs.declared.row.TradeRow.{TradeRow}
 use Rattle.tables.specs.Books.{Book}
 use Rattle.market.specs.declared.state.MarketState.{MarketState}
 use Rattle.rules.specs.declared.call.AccountCall.{AccountCall}
@@ -10,9 +8,9 @@ use Rattle.rules.specs.declared.call.Answer.{Answer}
 use Rattle.rules.specs.declared.call.NamedCall.{NamedCall}
 use Rattle.rules.specs.declared.call.Reply.{Reply}
 use Rattle.rules.specs.declared.call.Reply.TheVariants.{Account as AccountReply}
-use Rattle.rules.specs.Stands.{Stand, Verdict, refused, granted, standing, rows_of, trades_of, verdict, concluded, after_account}
+use Rattle.rules.specs.Stands.{Stand, Verdict, refused, granted, rows_of, trades_of, verdict, concluded, after_account}
 use Rattle.rules.specs.Outcomes.{Outcome, account_reply, account_outcome}
-use Rattle.rules.specs.Runs.{Lent, lent_after, answer_to, answers_run}
+use Rattle.rules.specs.Runs.{lent_after, answer_to, answers_run}
 use Rattle.isolation.specs.Runs.{run, replies}
 use Rattle.house.proofs.Acting.{outcome_kept}
 use Rattle.calls.specs.Promises.{HeldBy}
@@ -55,4 +53,4 @@ module _ (m : Meaning) (n : ℕ) where
       ap₂ (λ (x : Reply) (xs : List Reply). x ∷ xs)
       (ap (λ (o : Outcome). AccountReply o.answer) (sym e))
       (replies_answers k t cs (market_left m s c.account c.call ∙ ek) (λ i le. h (suc i) (omega (arith, le)))
-          ∙ ap (λ (o : Outcome). map AccountReply (answers_run m k n (o.rows, o.trades) cs)) (sym e))
+      ∙ ap (λ (o : Outcome). map AccountReply (answers_run m k n (o.rows, o.trades) cs)) (sym e))

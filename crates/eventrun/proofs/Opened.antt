@@ -11,8 +11,6 @@ use Rattle.events.specs.declared.event.Event.{Event}
 use Rattle.events.specs.declared.event.Event.TheVariants.{Open}
 use Rattle.market.specs.declared.state.MarketState.{MarketState}
 use Rattle.rules.specs.declared.call.Event.{Event as ListedEvent}
-use Rattle.rules.specs.declared.call.Answer.{Answer}
-use Rattle.rules.specs.declared.call.NamedCall.{NamedCall}
 use Rattle.rules.specs.declared.call.Reply.{Reply}
 use Rattle.rules.specs.declared.call.Reply.TheVariants.{Account as AccountReply}
 use Rattle.refusals.specs.declared.refusal.Refusal.TheVariants.{Tables, WrongAccounts, WrongOpeningMonth}

@@ -1,5 +1,5 @@
 -- What a session holds, part by part.
-use Rattle.std.proofs.Common.{◌≡◌, ℕ, ◌*◌, ◌≤◌, min, Bool, true, false, ◌&&◌, eqb, leb, List, [], ◌∷◌, length, replicate, Ok, Err, Result, sym, refl, ap, ◌∙◌, subst, ap₂, arith}
+use Rattle.std.proofs.Common.{◌≡◌, ℕ, ◌*◌, ◌≤◌, min, Bool, true, false, ◌&&◌, eqb, leb, List, [], ◌∷◌, length, Ok, Err, Result, sym, refl, ap, ◌∙◌, subst, ap₂, arith}
 use lib.ListN.{length-replicate}
 use Rattle.std.proofs.lemmas.Bool.{and_parts, leb-true}
 use Rattle.models.specs.Meaning.{Meaning}
@@ -13,10 +13,9 @@ use Rattle.tables.specs.Limits.{no_trade, tables_keep}
 use Rattle.market.specs.declared.state.MarketState.{MarketState}
 use Rattle.rules.specs.declared.call.Call.{Call}
 use Rattle.rules.specs.declared.call.Reply.{Reply}
-use Rattle.rules.specs.Calls.{outcome}
 use Rattle.calls.specs.Promises.{AnswersCall}
 use Rattle.rules.specs.Opening.{empty_row, opened_market, opened_rows, opened_trades, opening_questions}
-use Rattle.session.specs.Held.{Held, holding, opening_result, opened, called, after_call, kept_tables}
+use Rattle.session.specs.Held.{Held, holding, opening_result, opened, called, after_call}
 
 pub same_parts : (n x : ℕ) (k l : MarketState) (rs us : List AccountRow) (ts vs : List TradeRow) (m o : Meaning)
     → n ≡ x → k ≡ l → rs ≡ us → ts ≡ vs → m ≡ o → holding n k rs ts m ≡ holding x l us vs o

@@ -37,14 +37,19 @@ fn print_refusal(rt: &HostRuntime, name: &str, refusal: MakingRefusal) -> io::Re
     }
 }
 
-// The model of a text, or none where its making was refused, which is printed.
-fn model_of(rt: &HostRuntime, name: &str, text: &str) -> anyhow::Result<Option<AnyModel>> {
+// The model that a text of this kind gives, or why its making is refused.
+fn model_of(
+    rt: &HostRuntime,
+    kind: &str,
+    text: &str,
+) -> anyhow::Result<Result<AnyModel, MakingRefusal>> {
+    match text.split_whitespace().next() {
+        Some(first) if first == kind => {}
+        _ => return Err(anyhow!("a model's file begins with another word")),
+    }
     match load(rt.alloc(), text.as_bytes()) {
-        Ok(model) => Ok(Some(model)),
-        Err(LoadRefusal::Making(refusal)) => {
-            print_refusal(rt, name, refusal)?;
-            Ok(None)
-        }
+        Ok(model) => Ok(Ok(model)),
+        Err(LoadRefusal::Making(refusal)) => Ok(Err(refusal)),
         Err(LoadRefusal::Malformed) => Err(anyhow!("a model's file is not in a model's form")),
         Err(LoadRefusal::Memory) => Err(anyhow!("there is not the memory for a model")),
     }
@@ -65,24 +70,16 @@ fn print_joined(
     print_statement(rt, input, "joined", &Joined::new(table, knots))
 }
 
-// The statements on a model and on the one that a text gives.
-fn print_both(
-    rt: &HostRuntime,
-    input: &Input,
-    table: &AnyModel,
-    knots: &str,
-) -> anyhow::Result<()> {
-    match model_of(rt, "knot", knots)? {
-        Some(knots) => print_joined(rt, input, table, &knots),
-        None => Ok(()),
-    }
-}
-
-// The statements on the models that two texts give.
+// The statements on the models that two texts give, each after its check.
 fn print_all(rt: &HostRuntime, input: &Input, table: &str, knots: &str) -> anyhow::Result<()> {
-    match model_of(rt, "table", table)? {
-        Some(table) => print_both(rt, input, &table, knots),
-        None => Ok(()),
+    let first = model_of(rt, "table", table)?;
+    let second = model_of(rt, "knot", knots)?;
+    match first {
+        Err(refusal) => Ok(print_refusal(rt, "table", refusal)?),
+        Ok(table) => match second {
+            Err(refusal) => Ok(print_refusal(rt, "knot", refusal)?),
+            Ok(knots) => print_joined(rt, input, &table, &knots),
+        },
     }
 }
 

@@ -1,4 +1,4 @@
-use Rattle.std.proofs.Common.{◌≡◌, ℕ, ◌+◌, ◌<◌, ◌≤◌, true, length, get_or, take, drop, sym, refl, ap, ◌∙◌, subst, arith}
+use Rattle.std.proofs.Common.{◌≡◌, ℕ, ◌+◌, ◌<◌, true, length, take, drop, sym, refl, ap, ◌∙◌, subst, arith}
 use Rattle.tables.specs.Limits.{no_trade, tables_keep}
 use Rattle.rules.specs.declared.call.AccountCall.TheVariants.{Trade}
 use Rattle.rules.specs.declared.call.Call.TheVariants.{Account}

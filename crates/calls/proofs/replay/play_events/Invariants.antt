@@ -1,4 +1,4 @@
-use Rattle.std.proofs.Common.{◌≡◌, ℕ, ◌≤◌, true, length, take, drop}
+use Rattle.std.proofs.Common.{◌≡◌, ℕ, ◌≤◌, true, take, drop}
 use Rattle.tables.specs.Limits.{tables_keep}
 use Rattle.rules.specs.Stands.{standing}
 use Rattle.isolation.specs.Runs.{run, replies}

@@ -1,4 +1,4 @@
-use Rattle.std.proofs.Common.{◌≡◌, List, IfOk, subst, rules}
+use Rattle.std.proofs.Common.{List, IfOk, subst, rules}
 use Rattle.events.specs.declared.event.Event.{Event}
 use Rattle.eventrun.specs.Files.{Plays}
 use Rattle.eventrun.proofs.Listed.{first_and_later}

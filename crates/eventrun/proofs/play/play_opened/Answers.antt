@@ -1,4 +1,4 @@
-use Rattle.std.proofs.Common.{◌≡◌, map, length, sym, refl, ap, ◌∙◌, rules}
+use Rattle.std.proofs.Common.{map, sym, refl, ap, ◌∙◌, rules}
 use Rattle.std.proofs.lemmas.List.{with_items_is}
 use Rattle.eventrun.specs.Calls.{event_of}
 use Rattle.eventrun.specs.Files.{answer_in}
