@@ -13,7 +13,7 @@ use Rattle.rules.specs.Outcomes.{Outcome, account_reply, account_outcome}
 use Rattle.rules.specs.Runs.{lent_after, answer_to, answers_run}
 use Rattle.isolation.specs.Runs.{run, replies}
 use Rattle.house.proofs.Acting.{outcome_kept}
-use Rattle.calls.specs.Promises.{HeldBy}
+use Rattle.engine.specs.Promises.{HeldBy}
 use Rattle.eventrun.specs.Calls.{event_of}
 use Rattle.eventrun.specs.Files.{answer_in}
 

@@ -21,9 +21,9 @@ use Rattle.rules.specs.Stands.{rows_of, trades_of}
 use Rattle.isolation.specs.Runs.{run, replies, opened}
 use Rattle.opening.proofs.Opened.{allowed, opened_keeps}
 use Rattle.house.proofs.Lent.{rows_stand, trades_stand}
-use Rattle.calls.specs.declared.play.Played.{Played}
-use Rattle.calls.specs.Promises.{HeldBy, PlaysDay}
-use Rattle.calls.proofs.Played.{isolated_day, asked_yes}
+use Rattle.engine.specs.declared.play.Played.{Played}
+use Rattle.engine.specs.Promises.{HeldBy, PlaysDay}
+use Rattle.engine.proofs.Played.{isolated_day, asked_yes}
 use Rattle.eventrun.specs.Calls.{calls_in, event_of}
 use Rattle.eventrun.specs.Files.{answer_in, opening_number, Plays}
 use Rattle.eventrun.specs.declared.play.Played.{Played as FilePlayed}

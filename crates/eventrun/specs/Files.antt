@@ -15,7 +15,7 @@ use Rattle.rules.specs.declared.call.Reply.{Reply}
 use Rattle.rules.specs.declared.call.Reply.TheVariants.{Account as AccountReply, Market as MarketReply}
 use Rattle.rules.specs.Outcomes.{blank_answer}
 use Rattle.isolation.specs.Runs.{run, opened}
-use Rattle.calls.specs.Promises.{IsolatedDay}
+use Rattle.engine.specs.Promises.{IsolatedDay}
 use Rattle.eventrun.specs.Calls.{calls_in, event_of}
 use Rattle.eventrun.specs.declared.play.FileRun.{FileRun}
 use Rattle.eventrun.specs.declared.play.Played.{Played}

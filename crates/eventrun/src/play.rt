@@ -8,7 +8,7 @@ ghost use Rattle.rules.specs.Runs.{answers_run};
 ghost use Rattle.eventrun.specs.Files.{answer_in, Plays, IsFileRun};
 
 use super::calls::{calls_in, events_in};
-use calls::play::play as play_day;
+use engine::play::play as play_day;
 use events::event::Event;
 use events::fault::Fault;
 use events::reading::{MOST_EVENTS, read_all};

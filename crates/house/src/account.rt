@@ -1,5 +1,5 @@
 // Account calls: trade, end, lodge, draw and show.
-ghost use Rattle.std.specs.Prelude.{◌≡◌, ◌+◌, ◌*◌, ◌<◌, ◌≤◌, true, length, get_or, drop, if◌then◌else◌, nat_eq, slice_index_or, slice_set};
+ghost use Rattle.std.specs.Prelude.{◌≡◌, ◌+◌, ◌*◌, ◌<◌, ◌≤◌, true, length, drop, if◌then◌else◌, nat_eq, slice_index_or, slice_set};
 ghost use Rattle.tables.specs.Books.{book, books_of, no_row, places_at, put_places};
 ghost use Rattle.tables.specs.Limits.{holdings_keep, places_keep, tables_keep};
 ghost use Rattle.refusals.specs.Refusals.{number_of};
@@ -63,7 +63,7 @@ fn places_of(trades: &[TradeRow], account: usize) -> &[TradeRow]
 
 // An account's record and places, read out of the tables.
 fn read_book(records: &[AccountRow], trades: &[TradeRow], account: usize) -> HeldBook
-    requires { (account < length records.now) × ((64 * account + 64 ≤ length trades.now) × ((holdings_keep (slice_index_or records.now account no_row) ≡ true) × (places_keep (get_or records.now account no_row).trades (places_at trades.now account) ≡ true))) }
+    requires { (account < length records.now) × ((64 * account + 64 ≤ length trades.now) × ((holdings_keep (slice_index_or records.now account no_row) ≡ true) × (places_keep (slice_index_or records.now account no_row).trades (places_at trades.now account) ≡ true))) }
     ensures { book_in result ≡ book (slice_index_or records.now account no_row) (places_at trades.now account) }
 {
     let mut places = [NO_TRADE; 64];

@@ -2,7 +2,8 @@
 #![tactic(auto)]
 
 pub mod account;
+pub mod calls;
 pub mod listing;
-pub mod market;
+pub mod market_calls;
 mod maturing;
 mod settle;

@@ -1,5 +1,5 @@
 // A new month: trades of an earlier maturity go, and the rest close up in order.
-ghost use Rattle.std.specs.Prelude.{◌≡◌, ◌+◌, ◌-◌, ◌*◌, ◌<◌, ◌≤◌, true, ◌++◌, map, length, get_or, take, replicate, filter, slice_index_or, slice_set};
+ghost use Rattle.std.specs.Prelude.{◌≡◌, ◌+◌, ◌-◌, ◌*◌, ◌<◌, ◌≤◌, true, ◌++◌, map, length, take, replicate, filter, slice_index_or, slice_set};
 ghost use Rattle.tables.specs.Books.{book, books_of, places_at, put_places, no_row};
 ghost use Rattle.tables.specs.Limits.{no_trade, tables_keep};
 ghost use Rattle.rules.specs.MarketCalls.{running, closed_up, matured_out};
@@ -45,7 +45,7 @@ fn mature_places(places: &mut [TradeRow], count: u8, month: u16) -> u8
 
 // One account, its record and its places.
 fn mature_account(records: &mut [AccountRow], trades: &mut [TradeRow], account: usize, month: u16)
-    requires { (account < length records.old) × ((64 * account + 64 ≤ length trades.old) × ((get_or records.old account no_row).trades ≤ 64)) }
+    requires { (account < length records.old) × ((64 * account + 64 ≤ length trades.old) × ((slice_index_or records.old account no_row).trades ≤ 64)) }
     ensures rows { records.new ≡ slice_set records.old account (matured_out month (book (slice_index_or records.old account no_row) (places_at trades.old account))).row }
     ensures trades { trades.new ≡ put_places trades.old account (matured_out month (book (slice_index_or records.old account no_row) (places_at trades.old account))).places }
 {

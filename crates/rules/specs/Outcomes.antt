@@ -3,7 +3,7 @@
 -- blank_answer: an answer without figures, after refusals 1 and 2.
 -- OthersLeft: what a call leaves of the accounts that it does not name. Answered: all that a public account call promises.
 -- Outcome, account_outcome: the answer and both tables after a call, whatever tables it brings.
-use Rattle.std.specs.Prelude.{◌≡◌, ℕ, suc, ◌+◌, ◌<◌, Bool, true, cond, List, length, get_or, ◌==◌, ◌≢◌, nat_lt, slice_index_or}
+use Rattle.std.specs.Prelude.{◌≡◌, ℕ, suc, ◌+◌, ◌<◌, Bool, true, cond, List, length, ◌==◌, ◌≢◌, nat_lt, slice_index_or}
 use Rattle.models.specs.Meaning.{Meaning}
 use Rattle.tables.specs.declared.row.AccountRow.{AccountRow}
 use Rattle.tables.specs.declared.row.TradeRow.{TradeRow}
@@ -34,7 +34,7 @@ verdict_number (granted b) = 0
 abbrev pub account_reply : Meaning → Stand → ℕ → AccountCall → Answer
 account_reply m s i c =
     cond (nat_lt i (length (books_in s)))
-    (answer_of (verdict_number (verdict m s i c)) (get_or (books_in (after_account m s i c)) i no_book).row)
+    (answer_of (verdict_number (verdict m s i c)) (slice_index_or (books_in (after_account m s i c)) i no_book).row)
     (blank_answer (number_of NoAccount))
 
 pub record Outcome : Type 0 where
@@ -57,7 +57,7 @@ left_alone accepted restricted r = cond accepted (row_reflagged restricted r) r
 abbrev pub OthersLeft : ℕ → List AccountRow → List AccountRow → List TradeRow → List TradeRow → ℕ → Answer → Type 0
 OthersLeft n rs us ts vs i a =
     (j : ℕ) → suc j < n → (suc j ≢ i)
-    → (slice_index_or us (suc j) no_row ≡ left_alone (a.number == 0) (get_or us 0 no_row).own (slice_index_or rs (suc j) no_row)) × (places_at vs (suc j) ≡ places_at ts (suc j))
+    → (slice_index_or us (suc j) no_row ≡ left_alone (a.number == 0) (slice_index_or us 0 no_row).own (slice_index_or rs (suc j) no_row)) × (places_at vs (suc j) ≡ places_at ts (suc j))
 
 -- an account call, answered: the answer and both tables after are those of the outcome; the tables keep their limits as before,
 -- and rest after an accepted call; they hold the stand that the rules make of the stand before;

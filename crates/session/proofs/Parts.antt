@@ -13,7 +13,7 @@ use Rattle.tables.specs.Limits.{no_trade, tables_keep}
 use Rattle.market.specs.declared.state.MarketState.{MarketState}
 use Rattle.rules.specs.declared.call.Call.{Call}
 use Rattle.rules.specs.declared.call.Reply.{Reply}
-use Rattle.calls.specs.Promises.{AnswersCall}
+use Rattle.engine.specs.Promises.{AnswersCall}
 use Rattle.rules.specs.Opening.{empty_row, opened_market, opened_rows, opened_trades, opening_questions}
 use Rattle.session.specs.Held.{Held, holding, opening_result, opened, called, after_call}
 

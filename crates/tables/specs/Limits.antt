@@ -6,7 +6,7 @@
 -- is_empty, places_keep: the first places hold trades in range, and the rest nothing.
 -- figures_keep, book_keeps: obligation, available and shortfall of an account, and all of its record and places, are in range.
 -- tables_keep: question 1, of a house with n accounts.
--- no_trade, no_security: the rows that `get_or` gives past the end of a table.
+-- no_trade, no_security: the rows that `slice_index_or` gives past the end of a table.
 use Rattle.std.specs.Prelude.{ℕ, ◌*◌, Bool, false, ◌&&◌, leb, List, length, take, drop, ◌==◌, nat_le, slice_index_or}
 use Rattle.tables.specs.declared.row.AccountRow.{AccountRow}
 use Rattle.tables.specs.declared.row.Levels.{Levels}

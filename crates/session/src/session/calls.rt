@@ -6,7 +6,7 @@ ghost use Rattle.refusals.specs.Refusals.{result_number};
 ghost use Rattle.session.specs.Held.{held, first_held, opening_result, opened, called, after_call, with_model, kept_tables};
 
 use super::Session;
-use calls::answer::answer;
+use engine::answer::answer;
 use market::state::MarketState;
 use modelfile::default::default_model;
 use modelfile::load::load;

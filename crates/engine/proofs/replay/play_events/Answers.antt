@@ -1,0 +1,67 @@
+use Rattle.std.proofs.Common.{◌≡◌, ℕ, ◌+◌, ◌<◌, true, length, take, drop, sym, refl, ap, ◌∙◌, subst, arith}
+use Rattle.tables.specs.Limits.{no_trade, tables_keep}
+use Rattle.rules.specs.declared.call.AccountCall.TheVariants.{Trade}
+use Rattle.rules.specs.declared.call.Call.TheVariants.{Account}
+use Rattle.rules.specs.declared.call.Event.{Event}
+use Rattle.rules.specs.declared.call.Event.TheVariants.{RightTables}
+use Rattle.rules.specs.Stands.{Stand, standing}
+use Rattle.isolation.specs.Runs.{run, replies}
+use Rattle.engine.specs.Promises.{HeldBy}
+use Rattle.engine.proofs.Played.{held_by, up_to_more, run_more, replies_more, rest_more}
+use Rattle.engine.proofs.replay.play_events.Goals as goal
+
+-- what `get_or` gives past the end
+no_event : Event
+no_event = RightTables (Account (record { account = 0; call = Trade no_trade }))
+
+pub loop-i-preserved : goal.loop-i-preserved
+unfolding no_event
+loop-i-preserved g c =
+    let m = g.M.MarginModel.meaning c.args.model.now in
+    let s : Stand = standing c.args.house.now.market.state c.args.records.now c.args.trades.now in
+    let t : Stand = standing c.loop-i.house.market.state c.loop-i.records c.loop-i.trades in
+    let u : Stand = standing c.play_event-said.new.house.market.state c.play_event-said.new.records c.play_event-said.new.trades in
+    let es = c.args.events.now in
+    let i = c.loop-i.i in
+    let e = c.play_event-said.ensures in
+    let lt : i < length es = omega (arith, c.min-count.ensures) in
+    let la : i < length c.loop-i.answers = omega (arith, c.min-count.ensures) in
+    let n = c.args.house.now.accounts in
+    let l = c.play_event-said.new.house.market.state in
+    let us = c.play_event-said.new.records in
+    let vs = c.play_event-said.new.trades in
+    let keeps : tables_keep n us vs ≡ true = ap (λ (x : ℕ). tables_keep x us vs) (sym (e.accounts ∙ c.loop-i.invariant.0)) ∙ e.keeps in
+    let stands : u ≡ run m s (take (i + 1) es) = run_more m s es i no_event lt t u c.loop-i.invariant.2 e.stands in (
+      e.accounts ∙ c.loop-i.invariant.0,
+      e.keeps,
+      stands,
+      replies_more m s es i no_event lt t c.loop-i.answers c.play_event-said.result la c.loop-i.invariant.2 c.loop-i.invariant.3 e.replied,
+      rest_more c.loop-i.answers c.args.answers.now i c.play_event-said.result c.loop-i.invariant.4,
+      up_to_more (λ (j : ℕ). HeldBy n (run m s (take j es))) i c.loop-i.invariant.5 (subst (HeldBy n) stands (held_by l n us vs c.args.house.now.some keeps)),
+    )
+
+pub loop-i-init : goal.loop-i-init
+loop-i-init g c =
+    let n = c.args.house.now.accounts in
+    let k = c.args.house.now.market.state in
+    let rs = c.args.records.now in
+    let ts = c.args.trades.now in
+    let m = g.M.MarginModel.meaning c.args.model.now in
+    let first = held_by k n rs ts c.args.house.now.some c.requires in
+    (refl, c.requires, refl, refl, refl, λ j le. let z : 0 ≡ j = omega arith in subst (λ (x : ℕ). HeldBy n (run m (standing k rs ts) (take x c.args.events.now))) z first)
+
+pub returns : goal.returns
+returns g c =
+    let m = g.M.MarginModel.meaning c.args.model.now in
+    let s : Stand = standing c.args.house.now.market.state c.args.records.now c.args.trades.now in
+    let es = c.args.events.now in
+    let end : c.loop-i.i ≡ c.min-count.result = omega (arith, c.loop-i-test.false) in
+    record {
+      accounts = c.loop-i.invariant.0;
+      count = omega (arith, c.min-count.ensures);
+      replied = subst (λ (r : ℕ). take r c.loop-i.answers ≡ replies m s (take r es)) end c.loop-i.invariant.3;
+      rest = subst (λ (r : ℕ). drop r c.loop-i.answers ≡ drop r c.args.answers.now) end c.loop-i.invariant.4;
+      stands = c.loop-i.invariant.2 ∙ ap (λ (r : ℕ). run m s (take r es)) end;
+      keeps = ap (λ (n : ℕ). tables_keep n c.loop-i.records c.loop-i.trades) (sym c.loop-i.invariant.0) ∙ c.loop-i.invariant.1;
+      throughout = λ j le. c.loop-i.invariant.5 j (omega arith);
+    }
