@@ -1,4 +1,4 @@
-// The calls on a house: any call, account calls by name, and lists of calls.
+// Any call on a house, and lists of calls.
 #![tactic(auto)]
 
 pub mod answer;

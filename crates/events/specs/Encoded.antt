@@ -6,11 +6,11 @@
 --   Fits         every field of an event is within its width
 --   Later        none of a list of events is an opening
 --   Opened       a list of events is empty, or its first is an opening and no other is
---   WrittenInBytes     an encoded file is made of bytes
---   RecordReadBack     a record that is encoded at a place, in its turn, is read as its event
---   FileReadBack       a file that is encoded from events in turn is read as those events, with no fault
---   EventsEncodeFile   a file with no fault is the encoding of its events, which are in turn and within their widths
---   EventsReachFault   the bytes before a fault are the encoding of the events, and the fault has the record number after theirs
+--   WrittenInBytes       an encoded file is made of bytes
+--   RecordReadBack       a record that is encoded at a place, in its turn, is read as its event
+--   FileReadBack         a file that is encoded from events in turn is read as those events, with no fault
+--   EventsEncodeFile     a file with no fault is the encoding of its events, which are in turn and within their widths
+--   EventsReachFault     the bytes before a fault are the encoding of the events, and the fault has the record number after theirs
 use Rattle.std.specs.Prelude.{◌≡◌, ℕ, ◌+◌, ◌/◌, ◌%◌, ◌<◌, ◌≤◌, true, false, List, [], ◌∷◌, length, take, drop, Some, None, ◌==◌}
 use Rattle.std.specs.List.{AllByRecursion}
 use Rattle.events.specs.Kinds.{code_of, length_of, opens, event_kind}

@@ -3,8 +3,8 @@
 --   draws            the bytes of two draws, of 1,500,000 and 1,000,000
 --   five             the file of these five records
 --   fault            a fault of a record, a reason and a first byte
---   WorkedFile      a file of five records is read as five events, with no fault
---   WorkedFaults    small files, and the fault of each: its record, reason and first byte
+--   WorkedFile       a file of five records is read as five events, with no fault
+--   WorkedFaults     small files, and the fault of each: its record, reason and first byte
 use Rattle.std.specs.Prelude.{◌≡◌, ℕ, List, [], ◌∷◌, take, Some, None, Option}
 use Rattle.events.specs.Files.{events_of, fault_of}
 use Rattle.events.specs.declared.event.Event.TheVariants.{Open, Trade, LodgeCash, DrawCash}

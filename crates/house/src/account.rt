@@ -87,7 +87,8 @@ fn write_book(records: &mut [AccountRow], trades: &mut [TradeRow], account: usiz
 // The stored cover, which counts for the house alone.
 fn cover_for(house: &House, records: &[AccountRow], trades: &[TradeRow], account: usize) -> Cover
     requires { tables_keep house.now.accounts records.now trades.now ≡ true }
-    ensures { result.paise ≡ (if nat_eq account 0 then shortfalls (drop 1 (books_of records.now trades.now)) else 0) }
+    ensures value { result.paise ≡ (if nat_eq account 0 then shortfalls (drop 1 (books_of records.now trades.now)) else 0) }
+    ensures bound { result.paise ≤ 93000000000000000 }
 {
     if account == 0 {
         Cover::of(sum_shortfalls(constituents(records)))

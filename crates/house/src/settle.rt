@@ -57,7 +57,7 @@ pub(crate) fn constituents(records: &[AccountRow]) -> &[AccountRow]
 }
 
 // The trades that stand in an account's places.
-fn standing_rows(trades: &[TradeRow], account: usize, count: u8) -> &[TradeRow]
+pub(crate) fn standing_rows(trades: &[TradeRow], account: usize, count: u8) -> &[TradeRow]
     requires { (64 * account + 64 ≤ length trades.now) × (count ≤ 64) }
     ensures { result.now ≡ take count (places_at trades.now account) }
 {

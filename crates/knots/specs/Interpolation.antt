@@ -1,6 +1,6 @@
 -- Values between two knots, rounded down. Assumes nothing.
 --   floor          a quotient rounded down, also below zero
---   RoundedDown   what it means of a quotient that it is rounded down
+--   RoundedDown    what it means of a quotient that it is rounded down
 --   interpolated   from low towards high, t parts of d
 --   value_at       the value of a residual whose neighbouring knots have these places and values
 --   Between        a value between low and high, whichever of them is the larger

@@ -3,7 +3,7 @@
 --   number_at     the rate or tick value of a residual
 --   shock_at      the shock of a residual in a scenario
 --   knot_table    the meaning of the tables
---   KnotsSound   the tables that may be a knot model: 48 cells a set, shocks up to 20,000 from 0
+--   KnotsSound    the tables that may be a knot model: 48 cells a set, shocks up to 20,000 from 0
 use Rattle.std.specs.Prelude.{ℕ, ◌+◌, ◌*◌, cond, ◌&&◌, List, ℤ, pos, ◌*ℤ◌, nat_lt, slice_index, slice_index_or, unsigned_abs}
 use Rattle.models.specs.Meaning.{Meaning, within}
 use Rattle.models.specs.Sound.{Sound}

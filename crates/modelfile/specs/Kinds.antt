@@ -3,8 +3,8 @@
 --   cells_of      how many rates a set has
 --   limit_of      how far from 0 a number of the last table may be
 --   meaning_of    the meaning of three tables: sets, scenarios, rates, tick values, changes (or shocks)
---   SoundOf      the tables make such a model
---   RefusedOf    they make none, for this reason
+--   SoundOf       the tables make such a model
+--   RefusedOf     they make none, for this reason
 --   fits          whether a word may stand after the numbers of a model: a name, or none at the end
 use Rattle.std.specs.Prelude.{ℕ, Bool, true, false, cond, ◌||◌, List, length, ℤ, Some, None, codes, Option, ◌==◌}
 use Rattle.std.specs.Str.{bytes_eq}

@@ -5,7 +5,7 @@
 --   counts_fit    whether a model may have so many sets and scenarios
 --   part_of       the part that stands first in a text: a name, two counts, and the numbers of three tables
 --   Makes         the numbers of a part make a model of this meaning, with this text after it
---   EndsWith     a part ends with this answer: it stopped with it, or its numbers are refused with it
+--   EndsWith      a part ends with this answer: it stopped with it, or its numbers are refused with it
 use Rattle.std.specs.Prelude.{◌≡◌, ℕ, ◌*◌, Bool, cond, ◌&&◌, List, map, ℤ, Some, None, Option, nat_le}
 use Rattle.models.specs.Meaning.{Meaning}
 use Rattle.models.specs.declared.refusal.MakingRefusal.{MakingRefusal}

@@ -7,9 +7,9 @@
 --   in_range    whether the number at a place is in range; places count from 0 through the three tables
 --   marks       for each number, through the three tables, whether it is in range
 --   Ranges      the number at every place is in range
---   FirstOut   the first place whose number is out of range
+--   FirstOut    the first place whose number is out of range
 --   Sound       counts, lengths and numbers are as they must be
---   FirstNot   the first place in one list at which a test fails, or its length
+--   FirstNot    the first place in one list at which a test fails, or its length
 use Rattle.std.specs.Prelude.{◌≡◌, ℕ, ◌*◌, ◌<◌, ◌≤◌, Bool, true, false, List, ◌++◌, map, length, ℤ, nat_le, slice_index_or, unsigned_abs}
 
 abbrev pub Counts : ℕ → ℕ → Type 0

@@ -1,7 +1,7 @@
 -- The model that three tables of numbers are. Assumes nothing.
 --   cell_at        the place of a set's benchmark and residual among the rates and among the tick values
 --   table          the meaning of the tables
---   TableSound    the tables that may be a table model: 484 cells a set, changes up to 2,000,000 from 0
+--   TableSound     the tables that may be a table model: 484 cells a set, changes up to 2,000,000 from 0
 use Rattle.std.specs.Prelude.{ℕ, ◌+◌, ◌*◌, cond, ◌&&◌, List, ℤ, pos, nat_lt, slice_index, slice_index_or}
 use Rattle.models.specs.Meaning.{Meaning, within}
 use Rattle.models.specs.Sound.{Sound}

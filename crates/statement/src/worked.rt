@@ -96,12 +96,12 @@ fn print_mark(rt: &HostRuntime, model: &OwnedTable) -> anyhow::Result<()> {
     Ok(())
 }
 
-// The second highest of three losses, or 0 if they had none.
-fn second_loss() -> u64 {
+// The second highest of three losses.
+fn second_loss() -> anyhow::Result<u64> {
     let mut places = [0i64; 2];
     match kth_highest(&[9i64, 9, 5], &mut places) {
-        Some(loss) => loss.unsigned_abs(),
-        None => 0,
+        Some(loss) => Ok(loss.unsigned_abs()),
+        None => Err(anyhow!("three losses have a second highest")),
     }
 }
 
@@ -113,22 +113,23 @@ fn tenths() -> u32 {
     check_tenths(&thresholds, [13_226, 13_226, 0, 0, 0])
 }
 
-// The value of ten lots of a security, or 0 if it were refused.
-fn lots_value() -> u64 {
+// The value of ten lots of a security.
+fn lots_value() -> anyhow::Result<u64> {
     let row = SecurityRow {
         price: 9_850,
         haircut: 4,
         listed: true,
     };
     match Security::from_row(row) {
-        Some(security) => security.lots_value(10),
-        None => 0,
+        Some(security) => Ok(security.lots_value(10)),
+        None => Err(anyhow!("the security of the worked figures is refused")),
     }
 }
 
-fn print_charges(rt: &HostRuntime) -> io::Result<()> {
+fn print_charges(rt: &HostRuntime) -> anyhow::Result<()> {
     show(rt, "volatility-tenths", u64::from(tenths()), 175)?;
-    show(rt, "collateral-10-lots", lots_value(), 9_456_000)
+    show(rt, "collateral-10-lots", lots_value()?, 9_456_000)?;
+    Ok(())
 }
 
 fn show_level(
@@ -180,18 +181,18 @@ fn print_flags(rt: &HostRuntime) -> io::Result<()> {
 // What is worked on a model, and the tail.
 fn print_on_model(rt: &HostRuntime, model: &OwnedTable) -> anyhow::Result<()> {
     print_initial(rt, model)?;
-    show(rt, "kth-loss-9-9-5", second_loss(), 9)?;
+    show(rt, "kth-loss-9-9-5", second_loss()?, 9)?;
     print_mark(rt, model)
 }
 
-fn print_rules(rt: &HostRuntime) -> io::Result<()> {
+fn print_rules(rt: &HostRuntime) -> anyhow::Result<()> {
     print_charges(rt)?;
     print_levels(rt)?;
-    print_flags(rt)
+    print_flags(rt)?;
+    Ok(())
 }
 
 pub fn print_worked(rt: &HostRuntime) -> anyhow::Result<()> {
     print_on_model(rt, &worked_model(rt.alloc())?)?;
-    print_rules(rt)?;
-    Ok(())
+    print_rules(rt)
 }

@@ -7,7 +7,7 @@
 -- figures_keep, book_keeps: obligation, available and shortfall of an account, and all of its record and places, are in range.
 -- tables_keep: question 1, of a house with n accounts.
 -- no_trade, no_security: the rows that `slice_index_or` gives past the end of a table.
-use Rattle.std.specs.Prelude.{ℕ, ◌*◌, Bool, false, ◌&&◌, leb, List, length, take, drop, ◌==◌, nat_le, slice_index_or}
+use Rattle.std.specs.Prelude.{ℕ, ◌*◌, Bool, false, ◌&&◌, List, length, take, drop, ◌==◌, nat_le, slice_index_or}
 use Rattle.tables.specs.declared.row.AccountRow.{AccountRow}
 use Rattle.tables.specs.declared.row.Levels.{Levels}
 use Rattle.tables.specs.declared.row.SecurityRow.{SecurityRow}
@@ -29,7 +29,7 @@ abbrev pub trades_stand : List TradeRow → Bool
 trades_stand ts = nat_le (length ts) 64 && all_by trade_keeps ts
 
 abbrev pub lots_keep : List ℕ → Bool
-lots_keep ls = all_by (λ n. leb n 1000000) ls
+lots_keep ls = all_by (λ n. nat_le n 1000000) ls
 
 abbrev pub levels_keep : Levels → Bool
 levels_keep l = nat_le l.initial 2 && nat_le l.gross 2

@@ -34,7 +34,7 @@ finish_settling-requires g c =
     let h = c.in-Ok.tried in
     ap₂ (tables_keep n) c.write_book.ensures.rows c.write_book.ensures.trades
     ∙ put_keeps n rs ts i h.row h.places c.requires.tables c.requires.there c.write_book.ensures.long
-    (after_keeps c.cover_for-cover.result.paise i h (shortfalls (drop 1 (books_of rs ts))) c.cover_for-cover.ensures c.cover_for-cover.result.most c.in-Ok.ensures.1)
+    (after_keeps c.cover_for-cover.result.paise i h (shortfalls (drop 1 (books_of rs ts))) c.cover_for-cover.ensures.value c.cover_for-cover.result.most c.in-Ok.ensures.1)
 
 pub returns-in-Err : goal.returns-in-Err
 returns-in-Err g c =
@@ -45,7 +45,7 @@ returns-in-Err g c =
     let k = c.args.house.now.market.state in
     let m = g.M.MarginModel.meaning c.args.model.now in
     let cover = c.cover_for-cover.result.paise in
-    let v = verdict_is m k n rs ts i c.args.call c.args.house.now.some c.requires.tables c.requires.there cover c.cover_for-cover.ensures
+    let v = verdict_is m k n rs ts i c.args.call c.args.house.now.some c.requires.tables c.requires.there cover c.cover_for-cover.ensures.value
     ∙ ap (λ (b : Book). ordered m k (eqb i 0) cover b c.args.call) (sym c.read_book-held.ensures)
     ∙ c.in-Err.ensures in
     let o = refused_is m k n rs ts i c.args.call c.args.house.now.some c.requires.tables c.requires.there c.in-Err.refusal v in
@@ -68,7 +68,7 @@ returns-in-Ok g c =
     let m = g.M.MarginModel.meaning c.args.model.now in
     let cover = c.cover_for-cover.result.paise in
     let h = c.in-Ok.tried in
-    let v = verdict_is m k n rs ts i c.args.call c.args.house.now.some c.requires.tables c.requires.there cover c.cover_for-cover.ensures
+    let v = verdict_is m k n rs ts i c.args.call c.args.house.now.some c.requires.tables c.requires.there cover c.cover_for-cover.ensures.value
     ∙ ap (λ (b : Book). ordered m k (eqb i 0) cover b c.args.call) (sym c.read_book-held.ensures)
     ∙ c.in-Ok.ensures.0 in
     let done = c.finish_settling.ensures.rows ∙ ap₂ (λ (us : List AccountRow) (xs : List TradeRow). rows_of (finish m (standing k us xs))) c.write_book.ensures.rows c.write_book.ensures.trades in

@@ -22,8 +22,12 @@ constituents-requires c = omega (arith, (kept c.args.house.now.accounts c.args.r
 
 pub returns-then-account-eq0 : goal.returns-then-account-eq0
 returns-then-account-eq0 c =
-    (let e : c.of.result.paise ≡ c.sum_shortfalls.result = omega (arith, c.of.ensures, c.sum_shortfalls.ensures.bound) in e)
-    ∙ c.sum_shortfalls.ensures.value
-    ∙ ap (sum_by (λ (r : AccountRow). r.shortfall)) c.constituents.ensures
-    ∙ cover_books c.args.records.now c.args.trades.now
-    ∙ sym (cond-true _ _ _ (eq-eqb c.args.account 0 c.if-account-eq0.true))
+    let e : c.of.result.paise ≡ c.sum_shortfalls.result = omega (arith, c.of.ensures, c.sum_shortfalls.ensures.bound) in
+    record {
+      value = e
+          ∙ c.sum_shortfalls.ensures.value
+          ∙ ap (sum_by (λ (r : AccountRow). r.shortfall)) c.constituents.ensures
+          ∙ cover_books c.args.records.now c.args.trades.now
+          ∙ sym (cond-true _ _ _ (eq-eqb c.args.account 0 c.if-account-eq0.true));
+      bound = c.of.result.most;
+    }
