@@ -4,18 +4,19 @@
 #![tactic(auto)]
 
 mod account_file;
+mod model_file;
 mod report;
 mod worked;
 
 use account_file::{Input, read_account};
 use anyhow::anyhow;
-use modelfile::load::load;
-use modelfile::refusal::LoadRefusal;
-use models::check::check_joined;
+use knots::check::check_knots;
+use knots::model::KnotModel;
+use model_file::{Numbers, read_model};
+use models::check::{check_joined, check_table};
 use models::joined::Joined;
-use models::model::MarginModel;
 use models::refusal::MakingRefusal;
-use owned::any::AnyModel;
+use models::table::TableModel;
 use report::print_statement;
 use std::{env, fs, io};
 use worked::print_worked;
@@ -37,50 +38,67 @@ fn print_refusal(rt: &HostRuntime, name: &str, refusal: MakingRefusal) -> io::Re
     }
 }
 
-// The model that a text of this kind gives, or why its making is refused.
-fn model_of(
-    rt: &HostRuntime,
-    kind: &str,
-    text: &str,
-) -> anyhow::Result<Result<AnyModel, MakingRefusal>> {
-    match text.split_whitespace().next() {
-        Some(first) if first == kind => {}
-        _ => return Err(anyhow!("a model's file begins with another word")),
-    }
-    match load(rt.alloc(), text.as_bytes()) {
-        Ok(model) => Ok(Ok(model)),
-        Err(LoadRefusal::Making(refusal)) => Ok(Err(refusal)),
-        Err(LoadRefusal::Malformed) => Err(anyhow!("a model's file is not in a model's form")),
-        Err(LoadRefusal::Memory) => Err(anyhow!("there is not the memory for a model")),
-    }
-}
-
 // The statements on both models and on their join.
 fn print_joined(
     rt: &HostRuntime,
     input: &Input,
-    table: &AnyModel,
-    knots: &AnyModel,
+    table: TableModel,
+    knots: KnotModel,
+    scenarios: (u32, u32),
 ) -> anyhow::Result<()> {
-    print_statement(rt, input, "table", table)?;
-    print_statement(rt, input, "knot", knots)?;
-    if let Err(refusal) = check_joined(table.scenarios(), knots.scenarios()) {
+    print_statement(rt, input, "table", &table)?;
+    print_statement(rt, input, "knot", &knots)?;
+    if let Err(refusal) = check_joined(scenarios.0, scenarios.1) {
         return Ok(print_refusal(rt, "joined", refusal)?);
     }
     print_statement(rt, input, "joined", &Joined::new(table, knots))
 }
 
-// The statements on the models that two texts give, each after its check.
-fn print_all(rt: &HostRuntime, input: &Input, table: &str, knots: &str) -> anyhow::Result<()> {
-    let first = model_of(rt, "table", table)?;
-    let second = model_of(rt, "knot", knots)?;
-    match first {
-        Err(refusal) => Ok(print_refusal(rt, "table", refusal)?),
-        Ok(table) => match second {
-            Err(refusal) => Ok(print_refusal(rt, "knot", refusal)?),
-            Ok(knots) => print_joined(rt, input, &table, &knots),
-        },
+// Makes the two models, each after its check.
+fn print_all<'a>(
+    rt: &HostRuntime,
+    input: &Input,
+    table: (u32, u32, &'a [u32], &'a [u32], &'a [i32]),
+    knots: (u32, u32, &'a [u32], &'a [u32], &'a [i32]),
+) -> anyhow::Result<()> {
+    let (sets, scenarios, rates, ticks, changes) = table;
+    if let Err(refusal) = check_table(sets, scenarios, rates, ticks, changes) {
+        return Ok(print_refusal(rt, "table", refusal)?);
     }
+    let first = TableModel::new(sets, scenarios, rates, ticks, changes);
+    let (knot_sets, knot_scenarios, knot_rates, knot_ticks, shocks) = knots;
+    if let Err(refusal) = check_knots(knot_sets, knot_scenarios, knot_rates, knot_ticks, shocks) {
+        return Ok(print_refusal(rt, "knot", refusal)?);
+    }
+    let second = KnotModel::new(knot_sets, knot_scenarios, knot_rates, knot_ticks, shocks);
+    print_joined(rt, input, first, second, (scenarios, knot_scenarios))
+}
+
+// The statements on the models whose numbers two files hold.
+fn print_both(
+    rt: &HostRuntime,
+    input: &Input,
+    table: &Numbers,
+    knots: &Numbers,
+) -> anyhow::Result<()> {
+    print_all(
+        rt,
+        input,
+        (
+            table.sets,
+            table.scenarios,
+            table.rates.as_slice(),
+            table.ticks.as_slice(),
+            table.changes.as_slice(),
+        ),
+        (
+            knots.sets,
+            knots.scenarios,
+            knots.rates.as_slice(),
+            knots.ticks.as_slice(),
+            knots.changes.as_slice(),
+        ),
+    )
 }
 
 // The account that an argument names.
@@ -94,8 +112,10 @@ fn run(rt: &HostRuntime) -> anyhow::Result<()> {
     let _ = args.next();
     let input = input_of(rt, args.next())?;
     let table = text_of(rt, args.next())?;
+    let table = read_model(rt.alloc(), table.as_str(), "table", 484)?;
     let knots = text_of(rt, args.next())?;
-    print_all(rt, &input, table.as_str(), knots.as_str())?;
+    let knots = read_model(rt.alloc(), knots.as_str(), "knot", 48)?;
+    print_both(rt, &input, &table, &knots)?;
     print_worked(rt)
 }
 

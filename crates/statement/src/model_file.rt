@@ -1,0 +1,51 @@
+// A model's file: `table S N` or `knot S N`, and then the numbers of its tables in their order.
+use anyhow::anyhow;
+use std::alloc::Global;
+
+// The numbers of a model as they stand in its file, unchecked.
+#[derive(Drop)]
+pub struct Numbers {
+    pub sets: u32,
+    pub scenarios: u32,
+    pub rates: Vec<u32>,
+    pub ticks: Vec<u32>,
+    pub changes: Vec<i32>,
+}
+
+fn count(word: Option<&str>) -> anyhow::Result<u32> {
+    match word {
+        Some(text) => Ok(text.parse::<u32>()?),
+        None => Err(anyhow!("a model's file lacks its counts")),
+    }
+}
+
+// Reads a model's file. A set has `cells` rates and as many tick values; what follows them are the changes or shocks.
+pub fn read_model(heap: Global, text: &str, kind: &str, cells: usize) -> anyhow::Result<Numbers> {
+    let mut words = text.split_whitespace();
+    match words.next() {
+        Some(first) if first == kind => {}
+        _ => return Err(anyhow!("a model's file begins with another word")),
+    }
+    let sets = count(words.next())?;
+    let scenarios = count(words.next())?;
+    let size = cells.saturating_mul(sets as usize);
+    let mut rates: Vec<u32> = Vec::new(heap);
+    let mut ticks: Vec<u32> = Vec::new(heap);
+    let mut changes: Vec<i32> = Vec::new(heap);
+    for word in words {
+        if rates.len() < size {
+            rates.push(word.parse::<u32>()?)?;
+        } else if ticks.len() < size {
+            ticks.push(word.parse::<u32>()?)?;
+        } else {
+            changes.push(word.parse::<i32>()?)?;
+        }
+    }
+    Ok(Numbers {
+        sets,
+        scenarios,
+        rates,
+        ticks,
+        changes,
+    })
+}
