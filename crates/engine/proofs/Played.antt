@@ -1,7 +1,7 @@
 -- Lists of events: one more event, and the isolation of a run.
-use Rattle.std.proofs.Common.{◌≡◌, ℕ, suc, ◌+◌, ◌<◌, ◌≤◌, min, true, ⊎_elim, List, [], ◌∷◌, ◌++◌, map, length, get_or, take, drop, set, Ok, Err, Result, sym, refl, ap, ◌∙◌, subst, ap₂, arith}
+use Rattle.std.proofs.Common.{◌≡◌, ℕ, suc, ◌+◌, ◌<◌, ◌≤◌, min, true, ⊎_elim, List, [], ◌∷◌, ◌++◌, map, length, get_or, take, set, Ok, Err, Result, sym, refl, ap, ◌∙◌, subst, ap₂, arith}
 use Rattle.std.proofs.lemmas.Bool.{cond-true, cases_lt}
-use Rattle.std.proofs.lemmas.List.{take_more, take_more_set, drop-set-lt, drop-drop}
+use Rattle.std.proofs.lemmas.List.{take_more, take_more_set}
 use Rattle.models.specs.Meaning.{Meaning}
 use Rattle.refusals.specs.declared.refusal.Refusal.{Refusal}
 use Rattle.refusals.specs.Refusals.{decided, result_number}
@@ -48,9 +48,6 @@ module _ (m : Meaning) (s : Stand) (es : List Event) (i : ℕ) (d : Event) (lt :
       ∙ ap₂ (λ (l : List Reply) (y : Reply). l ++ y ∷ []) so_far (said ∙ ap (λ (x : Stand). reply m x (get_or es i d)) e)
       ∙ sym (replies_append m s (take i es) (get_or es i d ∷ []))
       ∙ ap (replies m s) (sym (take_more es i d lt))
-
-pub rest_more : (os ps : List Reply) (i : ℕ) (o : Reply) → drop i os ≡ drop i ps → drop (i + 1) (set os i o) ≡ drop (i + 1) ps
-rest_more os ps i o e = drop-set-lt (i + 1) os i o (omega arith) ∙ sym (drop-drop 1 i os) ∙ ap (drop 1) e ∙ drop-drop 1 i ps
 
 -- the replies of account i, out of what it observed
 heard : (m l : Meaning) (i : ℕ) (own : Stand → Book) (s t : Stand) (es fs : List Event) → observed m i own s es ≡ observed l i own t fs → own_replies i es (replies m s es) ≡ own_replies i fs (replies l t fs)

@@ -44,5 +44,6 @@ module _ (m : Meaning) (k : MarketState) (n : ℕ) where
         ∙ sym (answers_push t (take i cs) (get_or cs i d))
         ∙ ap (answers_run m k n t) (sym (take_more cs i d lt))
 
-pub rest_more : (os ps : List Answer) (i : ℕ) (x : Answer) → drop i os ≡ drop i ps → drop (i + 1) (set os i x) ≡ drop (i + 1) ps
+-- places past i + 1 are as they were, whatever fills place i
+pub rest_more : {X : Type 0} (os ps : List X) (i : ℕ) (x : X) → drop i os ≡ drop i ps → drop (i + 1) (set os i x) ≡ drop (i + 1) ps
 rest_more os ps i x e = drop-set-lt (i + 1) os i x (omega arith) ∙ sym (drop-drop 1 i os) ∙ ap (drop 1) e ∙ drop-drop 1 i ps

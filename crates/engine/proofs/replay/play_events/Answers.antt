@@ -7,7 +7,8 @@ use Rattle.rules.specs.declared.call.Event.TheVariants.{RightTables}
 use Rattle.rules.specs.Stands.{Stand, standing}
 use Rattle.isolation.specs.Runs.{run, replies}
 use Rattle.engine.specs.Promises.{HeldBy}
-use Rattle.engine.proofs.Played.{held_by, up_to_more, run_more, replies_more, rest_more}
+use Rattle.house.proofs.Runs.{rest_more}
+use Rattle.engine.proofs.Played.{held_by, up_to_more, run_more, replies_more}
 use Rattle.engine.proofs.replay.play_events.Goals as goal
 
 -- what `get_or` gives past the end
