@@ -1,10 +1,12 @@
 // The questions of an account call, in order.
-ghost use Rattle.std.specs.Prelude.{◌≡◌, ◌≤◌, length};
-ghost use Rattle.tables.specs.Books.{book, standing_of};
+ghost use Rattle.std.specs.Prelude.{◌≡◌};
 ghost use Rattle.refusals.specs.Refusals.{first_no};
+ghost use Rattle.rules.specs.Questions.{amount_fits, lots_fit, in_term, trade_questions, end_questions, lodge_cash_questions, draw_cash_questions, lodge_security_questions, draw_security_questions, asked_before, asked_after, traded_questions, drawn_questions, restricted_by};
+ghost use Rattle.tables.specs.Books.{standing_of};
 ghost use Rattle.rules.specs.Changes.{holds};
-ghost use Rattle.rules.specs.Questions.{in_term, trade_questions, end_questions, lodge_cash_questions, draw_cash_questions, lodge_security_questions, draw_security_questions, asked_before, asked_after, traded_questions, drawn_questions, restricted_by};
+ghost use Rattle.accounts.specs.Changing.{book_in};
 
+use super::book::HeldBook;
 use super::trades::holds_trade;
 use market::market::Market;
 use refusals::refusal::{Refusal, ask};
@@ -15,6 +17,18 @@ const MOST_CASH: u64 = 100_000_000_000_000;
 
 const MOST_LOTS: u32 = 1_000_000;
 
+fn amount_fits(amount: u64) -> bool
+    ensures { result ≡ amount_fits amount }
+{
+    (1..=MOST_CASH).contains(&amount)
+}
+
+fn lots_fit(lots: u32) -> bool
+    ensures { result ≡ lots_fit lots }
+{
+    (1..=MOST_LOTS).contains(&lots)
+}
+
 // Whether a maturity is from the current month to 120 months later.
 fn is_in_term(market: &Market, maturity: u16) -> bool
     ensures { result ≡ in_term market.now.state maturity }
@@ -24,101 +38,85 @@ fn is_in_term(market: &Market, maturity: u16) -> bool
 }
 
 // Whether a standing trade of the account has this number.
-fn has_number(row: &AccountRow, places: &[TradeRow], number: u32) -> bool
-    requires { (length places.now ≡ 64) × (row.now.trades ≤ 64) }
-    ensures { result ≡ holds number (standing_of (book row.now places.now)) }
+fn has_number(held: &HeldBook, number: u32) -> bool
+    ensures { result ≡ holds number (standing_of (book_in held.now)) }
 {
-    holds_trade(&places[0..row.trades as usize], number)
+    holds_trade(held.standing().rows(), number)
 }
 
 // The questions on a new trade.
-fn ask_trade(
-    market: &Market,
-    row: &AccountRow,
-    places: &[TradeRow],
-    trade: TradeRow,
-) -> Result<(), Refusal>
-    requires { (length places.now ≡ 64) × (row.now.trades ≤ 64) }
-    ensures { result ≡ first_no (trade_questions market.now.state (book row.now places.now) trade) }
+fn ask_trade(market: &Market, held: &HeldBook, trade: TradeRow) -> Result<(), Refusal>
+    ensures { result ≡ first_no (trade_questions market.now.state (book_in held.now) trade) }
 {
     ask(trade.benchmark <= 3, Refusal::WrongBenchmark)?;
     ask(trade.side <= 1, Refusal::WrongSide)?;
     ask(
-        1 <= trade.notional && trade.notional <= 1_000_000,
+        (1..=1_000_000).contains(&trade.notional),
         Refusal::WrongNotional,
     )?;
     ask(trade.rate <= 200_000, Refusal::WrongRate)?;
     ask(is_in_term(market, trade.maturity), Refusal::WrongMaturity)?;
-    ask(!has_number(row, places, trade.number), Refusal::NumberUsed)?;
-    ask(row.trades < 64, Refusal::TooManyTrades)
+    ask(!has_number(held, trade.number), Refusal::NumberUsed)?;
+    ask(held.trades() < 64, Refusal::TooManyTrades)
 }
 
 // The question on ending a trade.
-fn ask_end(row: &AccountRow, places: &[TradeRow], number: u32) -> Result<(), Refusal>
-    requires { (length places.now ≡ 64) × (row.now.trades ≤ 64) }
-    ensures { result ≡ first_no (end_questions (book row.now places.now) number) }
+fn ask_end(held: &HeldBook, number: u32) -> Result<(), Refusal>
+    ensures { result ≡ first_no (end_questions (book_in held.now) number) }
 {
-    ask(has_number(row, places, number), Refusal::NoTrade)
+    ask(has_number(held, number), Refusal::NoTrade)
 }
 
 // The questions on lodging cash.
-fn ask_lodge_cash(row: &AccountRow, amount: u64) -> Result<(), Refusal>
-    requires { row.now.cash ≤ 100000000000000 }
-    ensures { result ≡ first_no (lodge_cash_questions row.now amount) }
+fn ask_lodge_cash(held: &HeldBook, amount: u64) -> Result<(), Refusal>
+    ensures { result ≡ first_no (lodge_cash_questions held.now.row amount) }
 {
-    ask(1 <= amount && amount <= MOST_CASH, Refusal::WrongAmount)?;
-    ask(row.cash + amount <= MOST_CASH, Refusal::OverLimit)
+    ask(amount_fits(amount), Refusal::WrongAmount)?;
+    ask(held.cash() + amount <= MOST_CASH, Refusal::OverLimit)
 }
 
 // The questions on drawing cash.
-fn ask_draw_cash(row: &AccountRow, amount: u64) -> Result<(), Refusal>
-    ensures { result ≡ first_no (draw_cash_questions row.now amount) }
+fn ask_draw_cash(held: &HeldBook, amount: u64) -> Result<(), Refusal>
+    ensures { result ≡ first_no (draw_cash_questions held.now.row amount) }
 {
-    ask(1 <= amount && amount <= MOST_CASH, Refusal::WrongAmount)?;
-    ask(amount <= row.cash, Refusal::NotHeld)
+    ask(amount_fits(amount), Refusal::WrongAmount)?;
+    ask(amount <= held.cash(), Refusal::NotHeld)
 }
 
 // The questions on lodging a security.
-fn ask_lodge_security(row: &AccountRow, security: u32, lots: u32) -> Result<(), Refusal>
-    ensures { result ≡ first_no (lodge_security_questions row.now security lots) }
+fn ask_lodge_security(held: &HeldBook, security: u32, lots: u32) -> Result<(), Refusal>
+    ensures { result ≡ first_no (lodge_security_questions held.now.row security lots) }
 {
     ask(security < 32, Refusal::NoSecurity)?;
-    ask(1 <= lots && lots <= MOST_LOTS, Refusal::WrongLots)?;
-    let total = row.lots[security as usize] as u64 + lots as u64;
-    ask(total <= MOST_LOTS as u64, Refusal::OverLimit)
+    ask(lots_fit(lots), Refusal::WrongLots)?;
+    ask(held.lots(security) + lots <= MOST_LOTS, Refusal::OverLimit)
 }
 
 // The questions on drawing a security.
-fn ask_draw_security(row: &AccountRow, security: u32, lots: u32) -> Result<(), Refusal>
-    ensures { result ≡ first_no (draw_security_questions row.now security lots) }
+fn ask_draw_security(held: &HeldBook, security: u32, lots: u32) -> Result<(), Refusal>
+    ensures { result ≡ first_no (draw_security_questions held.now.row security lots) }
 {
     ask(security < 32, Refusal::NoSecurity)?;
-    ask(1 <= lots && lots <= MOST_LOTS, Refusal::WrongLots)?;
-    ask(lots <= row.lots[security as usize], Refusal::NotHeld)
+    ask(lots_fit(lots), Refusal::WrongLots)?;
+    ask(lots <= held.lots(security), Refusal::NotHeld)
 }
 
 // The questions of a call on its numbers and the account as it stands.
-pub(crate) fn ask_before(
-    market: &Market,
-    row: &AccountRow,
-    places: &[TradeRow],
-    call: AccountCall,
-) -> Result<(), Refusal>
-    requires { (length places.now ≡ 64) × ((row.now.trades ≤ 64) × (row.now.cash ≤ 100000000000000)) }
-    ensures { result ≡ first_no (asked_before market.now.state (book row.now places.now) call) }
+pub(crate) fn ask_before(market: &Market, held: &HeldBook, call: AccountCall) -> Result<(), Refusal>
+    ensures { result ≡ first_no (asked_before market.now.state (book_in held.now) call) }
 {
     match call {
-        AccountCall::Trade(trade) => ask_trade(market, row, places, trade),
-        AccountCall::End(number) => ask_end(row, places, number),
-        AccountCall::LodgeCash(amount) => ask_lodge_cash(row, amount),
-        AccountCall::DrawCash(amount) => ask_draw_cash(row, amount),
-        AccountCall::LodgeSecurity(security, lots) => ask_lodge_security(row, security, lots),
-        AccountCall::DrawSecurity(security, lots) => ask_draw_security(row, security, lots),
+        AccountCall::Trade(trade) => ask_trade(market, held, trade),
+        AccountCall::End(number) => ask_end(held, number),
+        AccountCall::LodgeCash(amount) => ask_lodge_cash(held, amount),
+        AccountCall::DrawCash(amount) => ask_draw_cash(held, amount),
+        AccountCall::LodgeSecurity(security, lots) => ask_lodge_security(held, security, lots),
+        AccountCall::DrawSecurity(security, lots) => ask_draw_security(held, security, lots),
         AccountCall::Show => Ok(()),
     }
 }
 
-// Whether a record is restricted: the house by its own flag alone.
+// Whether a record is restricted: the house by its own flag alone. Which account it is stays a `bool`, as in `preview`.
 fn is_restricted(house: bool, row: &AccountRow) -> bool
     ensures { result ≡ restricted_by house row.now }
 {

@@ -3,7 +3,6 @@
 
 mod asking;
 pub mod book;
-mod changing;
 pub mod cover;
 pub mod preview;
 pub mod settle;

@@ -1,8 +1,10 @@
 // Settling: figures, levels and own flag of one account.
 ghost use Rattle.std.specs.Prelude.{◌≡◌, ◌+◌, ◌≤◌, true};
 ghost use Rattle.tables.specs.Limits.{holdings_keep};
-ghost use Rattle.rules.specs.Settling.{settled_row};
+ghost use Rattle.rules.specs.Settling.{settled_row, settled};
+ghost use Rattle.accounts.specs.Changing.{book_in, Within};
 
+use super::book::HeldBook;
 use super::cover::Cover;
 use margins::figures::work::figures;
 use margins::flags::own_flag;
@@ -12,7 +14,9 @@ use tables::account::Account;
 use tables::row::AccountRow;
 use tables::standing::StandingTrades;
 
-// A record with its figures, levels and own flag anew, at a cover: none for a constituent.
+// A record with its figures, levels and own flag anew, at a cover: none for a constituent. Model, market and cover stay three
+// parameters: a call brings its model, the house holds the market, and the tables give the cover.
+#[tactic(auto, using(crate::proofs::Keeps::figured_keeps), unfolding(rules::specs::Settling::settled_row))]
 pub fn settle<M: MarginModel>(
     model: &M,
     market: &Market,
@@ -29,17 +33,24 @@ pub fn settle<M: MarginModel>(
     let found = figures(model, market, account, trades);
     let row = account.row();
     let obligation = found.obligation + cover.paise();
-    let lots = row.lots;
     AccountRow {
-        cash: row.cash,
         obligation,
         available: found.available,
         shortfall: obligation.saturating_sub(found.available),
-        lots,
         overnight: found.overnight.levels,
         forward: found.forward.levels,
-        trades: row.trades,
         own: own_flag(row.own, obligation, found.available),
-        second: row.second,
+        ..row
+    }
+}
+
+impl HeldBook {
+    // A book as it settles, at a cover: none for a constituent.
+    pub fn settled<M: MarginModel>(self, model: &M, market: &Market, cover: Cover) -> HeldBook
+        ensures value { book_in result ≡ settled (M.meaning model.now) market.now.state cover.paise (book_in self) }
+        ensures within { Within cover.paise result.row }
+    {
+        let row = settle(model, market, cover, &self.account(), self.standing());
+        HeldBook::new(row, self.places())
     }
 }

@@ -1,27 +1,21 @@
 // The trades of one account.
-ghost use Rattle.std.specs.Prelude.{◌≡◌, ◌<◌, ◌≤◌, length};
+ghost use Rattle.std.specs.Prelude.{◌≡◌, ◌<◌, length, if◌then◌else◌};
 ghost use Rattle.rules.specs.Changes.{place_of, holds, closed};
 
 use tables::row::{NO_TRADE, TradeRow};
 
-// Where the first trade of this number stands, or how many there are where there is none.
-pub(crate) fn find_trade(trades: &[TradeRow], number: u32) -> usize
-    ensures value { result ≡ place_of number trades.now }
-    ensures bound { result ≤ length trades.now }
+// Where the first trade of this number stands.
+pub(crate) fn find_trade(trades: &[TradeRow], number: u32) -> Option<usize>
+    ensures { result ≡ (if holds number trades.now then Some (place_of number trades.now) else None) }
 {
-    for (i, trade) in trades.iter().enumerate() {
-        if trade.number == number {
-            return i;
-        }
-    }
-    trades.len()
+    trades.iter().position(|trade| trade.number == number)
 }
 
 // Whether a trade of this number stands.
 pub(crate) fn holds_trade(trades: &[TradeRow], number: u32) -> bool
     ensures { result ≡ holds number trades.now }
 {
-    find_trade(trades, number) < trades.len()
+    find_trade(trades, number).is_some()
 }
 
 // Takes the trade at a place out, and closes up the rest.

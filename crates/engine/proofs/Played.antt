@@ -1,11 +1,8 @@
 -- Lists of events: one more event, and the isolation of a run.
-use Rattle.std.proofs.Common.{◌≡◌, ℕ, suc, ◌+◌, ◌<◌, ◌≤◌, min, true, ⊎_elim, List, [], ◌∷◌, ◌++◌, map, length, get_or, take, set, Ok, Err, Result, sym, refl, ap, ◌∙◌, subst, ap₂, arith}
+use Rattle.std.proofs.Common.{◌≡◌, ℕ, suc, ◌+◌, ◌<◌, ◌≤◌, min, true, ⊎_elim, List, [], ◌∷◌, ◌++◌, map, length, get_or, take, set, sym, ap, ◌∙◌, subst, ap₂, arith}
 use Rattle.std.proofs.lemmas.Bool.{cond-true, cases_lt}
 use Rattle.std.proofs.lemmas.List.{take_more, take_more_set}
 use Rattle.models.specs.Meaning.{Meaning}
-use Rattle.refusals.specs.declared.refusal.Refusal.{Refusal}
-use Rattle.refusals.specs.Refusals.{decided, result_number}
-use Rattle.refusals.proofs.Facts.{refusal_some}
 use Rattle.tables.specs.declared.row.AccountRow.{AccountRow}
 use Rattle.tables.specs.declared.row.TradeRow.{TradeRow}
 use Rattle.tables.specs.Books.{Book}
@@ -112,16 +109,3 @@ day_from m month n k l a rs us ts vs es os ps r some ek ea er et h p =
     (subst (λ (x : ℕ). Replays m k l x (opened_rows n) us (opened_trades n) vs es os ps r) ea
     (subst (λ (x : List AccountRow). Replays m k l a x us (opened_trades n) vs es os ps r) er
     (subst (λ (x : List TradeRow). Replays m k l a rs us x vs es os ps r) et p))))
-
--- what a refused, and an accepted, opening leaves
-pub decided_no : {X : Type 0} (q : Result (Unit {0}) Refusal) (x y : X) → (result_number q ≡ 0 → ⊥) → decided q x (λ e. y) ≡ y
-decided_no (Ok u) x y ne = absurd (ne refl)
-decided_no (Err e) x y ne = refl
-
-pub decided_yes : {X : Type 0} (q : Result (Unit {0}) Refusal) (x y : X) → result_number q ≡ 0 → decided q x (λ e. y) ≡ x
-decided_yes (Ok u) x y z = refl
-decided_yes (Err e) x y z = absurd (refusal_some e z)
-
-pub asked_yes : (q : Result (Unit {0}) Refusal) → result_number q ≡ 0 → q ≡ Ok tt
-asked_yes (Ok u) z = refl
-asked_yes (Err e) z = absurd (refusal_some e z)

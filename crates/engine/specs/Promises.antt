@@ -2,9 +2,10 @@
 -- AnswersCall: one call, on any tables. Past: an accepted opening and a list of events that led to a stand.
 -- IsolatedRun: the isolation of a run from a stand, whatever past led there. HeldBy: tables within their limits that hold a stand. Replays: a list of events, from where a house stands.
 -- IsolatedDay: the isolation of a run from an opening. PlaysDay: an opening, and a list of events after it.
-use Rattle.std.specs.Prelude.{◌≡◌, ℕ, suc, ◌<◌, ◌≤◌, min, true, false, cond, List, ◌++◌, length, take, drop, ◌≢◌}
+use Rattle.std.specs.Prelude.{◌≡◌, ℕ, suc, ◌<◌, ◌≤◌, min, true, false, if◌then◌else◌, List, ◌++◌, length, take, drop, Ok, Err, Result}
 use Rattle.models.specs.Meaning.{Meaning}
-use Rattle.refusals.specs.Refusals.{first_no, result_number}
+use Rattle.refusals.specs.declared.refusal.Refusal.{Refusal}
+use Rattle.refusals.specs.Refusals.{first_no}
 use Rattle.tables.specs.declared.row.AccountRow.{AccountRow}
 use Rattle.tables.specs.declared.row.TradeRow.{TradeRow}
 use Rattle.tables.specs.Limits.{tables_keep}
@@ -19,7 +20,6 @@ use Rattle.rules.specs.Calls.{outcome, reply_number}
 use Rattle.isolation.specs.Runs.{after, reply, run, replies, opened}
 use Rattle.isolation.specs.Views.{constituent_trace, house_trace, observed, own_replies}
 use Rattle.isolation.specs.Isolation.{Agree, book_of, Accounted, Covered, Isolation}
-use Rattle.engine.specs.declared.play.Played.{Played}
 
 -- n accounts; market k, records rs and places ts before, l, us and vs after; the call c was answered a
 pub record AnswersCall (m : Meaning) (k l : MarketState) (n : ℕ) (rs us : List AccountRow) (ts vs : List TradeRow) (c : Call) (a : Reply) : Type 0 where
@@ -74,7 +74,7 @@ pub record HeldBy (n : ℕ) (s : Stand) : Type 0 where
 -- the first r of the events es were played, and of the places os for replies, which became ps, the first r were filled
 pub record Replays (m : Meaning) (k l : MarketState) (n : ℕ) (rs us : List AccountRow) (ts vs : List TradeRow) (es : List Event) (os ps : List Reply) (r : ℕ) : Type 0 where
   -- as many as there is room for, and none where the tables fail question 1
-  pub played : r ≡ cond (tables_keep n rs ts) (min (length es) (length os)) 0
+  pub played : r ≡ (if tables_keep n rs ts then min (length es) (length os) else 0)
   pub replied : take r ps ≡ replies m (standing k rs ts) (take r es)
   pub rest : drop r ps ≡ drop r os
   -- market and both whole tables are what the rules make of the list
@@ -118,16 +118,16 @@ pub record Day (m : Meaning) (month n : ℕ) (l : MarketState) (us : List Accoun
   pub isolated : IsolatedDay m month n (take r es) (take r ps) (standing l us vs)
 
 -- a refused opening leaves everything as it was, and nothing is played
-pub record Nothing (k l : MarketState) (h h' : ℕ) (rs us : List AccountRow) (ts vs : List TradeRow) (os ps : List Reply) (r : ℕ) : Type 0 where
-  pub played : r ≡ 0
+pub record Nothing (k l : MarketState) (h h' : ℕ) (rs us : List AccountRow) (ts vs : List TradeRow) (os ps : List Reply) : Type 0 where
   pub accounts : h' ≡ h
   pub market : l ≡ k
   pub rows : us ≡ rs
   pub trades : vs ≡ ts
   pub replied : ps ≡ os
 
--- h accounts before, h' after
-pub record PlaysDay (m : Meaning) (month n : ℕ) (k l : MarketState) (h h' : ℕ) (rs us : List AccountRow) (ts vs : List TradeRow) (es : List Event) (os ps : List Reply) (d : Played) : Type 0 where
-  pub number : d.number ≡ result_number (first_no (opening_questions n month rs ts))
-  pub accepted : d.number ≡ 0 → (h' ≡ n) × Day m month n l us vs es os ps d.count
-  pub refused : (d.number ≢ 0) → Nothing k l h h' rs us ts vs os ps d.count
+-- h accounts before, h' after; the opening was accepted and d events played, or refused for the first question that was answered no
+abbrev pub PlaysDay : Meaning → ℕ → ℕ → MarketState → MarketState → ℕ → ℕ → List AccountRow → List AccountRow → List TradeRow → List TradeRow → List Event → List Reply → List Reply → Result ℕ Refusal → Type 0
+PlaysDay m month n k l h h' rs us ts vs es os ps (Ok d) =
+    (first_no (opening_questions n month rs ts) ≡ Ok tt) × (h' ≡ n) × Day m month n l us vs es os ps d
+PlaysDay m month n k l h h' rs us ts vs es os ps (Err e) =
+    (first_no (opening_questions n month rs ts) ≡ Err e) × Nothing k l h h' rs us ts vs os ps

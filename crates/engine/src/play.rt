@@ -4,20 +4,14 @@ ghost use Rattle.engine.specs.Promises.{PlaysDay};
 
 use super::replay::replay;
 use models::model::MarginModel;
-use opening::opening::open;
+use opening::opening::open_house;
+use refusals::refusal::Refusal;
 use rules::call::{Event, Reply};
 use rules::house::House;
 use tables::row::{AccountRow, TradeRow};
 
-// The number of the opening, and how many events were played after it.
-#[derive(Clone, Copy)]
-pub struct Played {
-    pub number: u8,
-    pub count: usize,
-}
-
-// Opens the house that the caller holds, and plays as many of the events as there is room for their replies.
-// A refused opening leaves everything as it was.
+// Opens the house that the caller holds, and plays as many of the events as there is room for their replies. Gives how many they
+// are, or why the opening is refused: then everything is as it was.
 pub fn play<M: MarginModel>(
     house: &mut House,
     model: &M,
@@ -27,13 +21,9 @@ pub fn play<M: MarginModel>(
     trades: &mut [TradeRow],
     events: &[Event],
     answers: &mut [Reply],
-) -> Played
+) -> Result<usize, Refusal>
     ensures { PlaysDay (M.meaning model.now) month accounts house.old.market.state house.new.market.state house.old.accounts house.new.accounts records.old records.new trades.old trades.new events.now answers.old answers.new result }
 {
-    let number = open(house, accounts, month, records, trades);
-    if number != 0 {
-        return Played { number, count: 0 };
-    }
-    let count = replay(house, model, records, trades, events, answers);
-    Played { number, count }
+    open_house(house, accounts, month, records, trades)?;
+    Ok(replay(house, model, records, trades, events, answers))
 }

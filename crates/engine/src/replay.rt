@@ -51,15 +51,17 @@ fn play_events<M: MarginModel>(
     ensures throughout { (i : ℕ) → i ≤ result → HeldBy house.old.accounts (run (M.meaning model.now) (standing house.old.market.state records.old trades.old) (take i events.now)) }
 {
     let count = events.len().min(answers.len());
-    for i in 0..count {
-        let said = play_event(house, model, records, trades, events[i]);
+    for (i, event) in events[..count].iter().enumerate() {
+        let said = play_event(house, model, records, trades, *event);
         answers[i] = said;
     }
     count
 }
 
-// Plays as many of the events as there is room for their replies, and gives how many they are.
-// None is played where the tables fail question 1.
+// Plays as many of the events as there is room for their replies, and gives how many they are: the room is the caller's, since no
+// heap is used here.
+// None is played where the tables fail question 1. Its other list, of account calls with their answers, is `house::listing`: the two
+// answer in different types. By index, since of a `zip` with an `iter_mut` a proof does not learn what was written.
 pub fn replay<M: MarginModel>(
     house: &mut House,
     model: &M,

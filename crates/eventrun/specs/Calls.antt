@@ -1,7 +1,8 @@
 -- The account calls of an event file.
 -- call_of: the account call that a record stands for; an opening is none. calls_in: the account calls of the records.
 -- event_of: a call as an event of a list, with the house's own tables.
-use Rattle.std.specs.Prelude.{List, [], ◌∷◌, Some, None, Option}
+use Rattle.std.specs.Prelude.{List, Some, None, Option}
+use Rattle.std.specs.List.{filter_map}
 use Rattle.events.specs.declared.event.Event.{Event}
 use Rattle.events.specs.declared.event.Event.TheVariants.{Open, Trade, LodgeCash, DrawCash}
 use Rattle.rules.specs.declared.call.AccountCall.TheVariants.{Trade as NewTrade, LodgeCash as Lodge, DrawCash as Draw}
@@ -17,13 +18,8 @@ call_of (Trade account number benchmark side maturity notional rate) =
 call_of (LodgeCash account amount) = Some (record { account = account; call = Lodge amount })
 call_of (DrawCash account amount) = Some (record { account = account; call = Draw amount })
 
-abbrev pub call_before : Option NamedCall → List NamedCall → List NamedCall
-call_before None more = more
-call_before (Some c) more = c ∷ more
-
 abbrev pub calls_in : List Event → List NamedCall
-calls_in [] = []
-calls_in (e ∷ es) = call_before (call_of e) (calls_in es)
+calls_in es = filter_map call_of es
 
 abbrev pub event_of : NamedCall → ListedEvent
 event_of c = RightTables (Account c)

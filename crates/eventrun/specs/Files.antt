@@ -2,7 +2,7 @@
 -- opening_number: the number of an opening whose tables have the right lengths.
 -- opening_in: the number of the opening of a file, if there is one. answers_in: the answers to the records after an accepted opening. answer_in: the answer in a reply.
 -- IsolatedFile: the isolation of the run. Plays: the number and the answers of played records, and their isolation. IsFileRun: what the run of a file holds: its records, its fault and its answers.
-use Rattle.std.specs.Prelude.{◌≡◌, ℕ, cond, List, [], ◌∷◌, map, Some, None, vec_items, Option, ◌==◌}
+use Rattle.std.specs.Prelude.{◌≡◌, ℕ, if◌then◌else◌, List, [], ◌∷◌, map, Some, None, vec_items, Option, ◌==◌}
 use Rattle.models.specs.Meaning.{Meaning}
 use Rattle.events.specs.Files.{events_of, fault_of}
 use Rattle.events.specs.declared.event.Event.{Event}
@@ -32,7 +32,7 @@ opening_in (DrawCash a m ∷ es) = None
 
 abbrev pub answers_after : Meaning → ℕ → ℕ → List Event → List Answer
 answers_after m n month es =
-    cond (opening_number n month == 0) (answers_run m (opened_market month) n (opened_rows n, opened_trades n) (calls_in es)) []
+    (if opening_number n month == 0 then answers_run m (opened_market month) n (opened_rows n, opened_trades n) (calls_in es) else [])
 
 abbrev pub answers_in : Meaning → List Event → List Answer
 answers_in m [] = []

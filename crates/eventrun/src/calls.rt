@@ -1,13 +1,13 @@
 // The account calls of an event file.
-ghost use Rattle.std.specs.Prelude.{◌≡◌, [], ◌++◌, map, IfOk, OnOk};
-ghost use Rattle.eventrun.specs.Calls.{call_of, call_before, calls_in, event_of};
+ghost use Rattle.std.specs.Prelude.{◌≡◌, map, IfOk};
+ghost use Rattle.eventrun.specs.Calls.{call_of, calls_in, event_of};
 
 use events::event::Event;
 use rules::call::{AccountCall, Call, Event as ListedEvent, NamedCall};
 use std::alloc::{AllocError, Global};
 use tables::row::TradeRow;
 
-// The account call that a record stands for; an opening is none.
+// The account call that a record stands for; an opening is none. It is no `TryFrom`, since both types are other crates'.
 pub fn named_call(event: Event) -> Option<NamedCall>
     ensures { result ≡ call_of event }
 {
@@ -43,28 +43,17 @@ pub fn named_call(event: Event) -> Option<NamedCall>
     }
 }
 
-// The call of one record, if it is one, after the calls so far.
-fn push_call(calls: &mut Vec<NamedCall>, event: Event) -> Result<(), AllocError>
-    ensures { OnOk result (calls.new.items ≡ calls.old.items ++ call_before (call_of event) []) }
-{
-    if let Some(call) = named_call(event) {
-        calls.push(call)?;
-    }
-    Ok(())
-}
-
 // The account calls of the records, in their order.
 pub fn calls_in(heap: Global, records: &[Event]) -> Result<Vec<NamedCall>, AllocError>
     ensures { IfOk result (λ v. v.items ≡ calls_in records.now) }
 {
-    let mut calls: Vec<NamedCall> = Vec::new(heap);
-    for i in 0..records.len() {
-        push_call(&mut calls, records[i])?;
-    }
-    Ok(calls)
+    records
+        .iter()
+        .filter_map(|event| named_call(*event))
+        .collect(heap)
 }
 
-// A call on one account, with the house's own tables.
+// A call on one account, with the house's own tables. It is no `From`, which would not say that the tables are the right ones.
 fn event_of(call: NamedCall) -> ListedEvent
     ensures { result ≡ event_of call }
 {
@@ -75,9 +64,5 @@ fn event_of(call: NamedCall) -> ListedEvent
 pub fn events_in(heap: Global, calls: &[NamedCall]) -> Result<Vec<ListedEvent>, AllocError>
     ensures { IfOk result (λ v. v.items ≡ map event_of calls.now) }
 {
-    let mut events: Vec<ListedEvent> = Vec::new(heap);
-    for call in calls {
-        events.push(event_of(*call))?;
-    }
-    Ok(events)
+    calls.iter().map(|call| event_of(*call)).collect(heap)
 }

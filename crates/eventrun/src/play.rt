@@ -11,7 +11,7 @@ use super::calls::{calls_in, events_in};
 use engine::play::play as play_day;
 use events::event::Event;
 use events::fault::Fault;
-use events::reading::{MOST_EVENTS, read_all};
+use events::reader::Reader;
 use house::listing::answer_all;
 use models::model::MarginModel;
 use opening::opening::{empty_row, open, unopened};
@@ -35,7 +35,8 @@ pub struct Found {
     pub fault: Option<Fault>,
 }
 
-// The number of the opening, if there is one, and the answers to the records after an accepted one.
+// The number of the opening, if there is one, and the answers to the records after an accepted one. The number is plain,
+// as `open` answers it.
 #[derive(Drop)]
 pub struct Played {
     pub number: Option<u8>,
@@ -49,7 +50,8 @@ pub struct FileRun {
     pub played: Played,
 }
 
-// Opens the house, and answers the calls on it in turn. Gives the number of the opening; after a refused one no call is answered.
+// Opens the house, and answers the calls on it in turn. Gives the number of the opening, plain as `open` answers it; after a
+// refused one no call is answered.
 pub fn open_and_answer<M: MarginModel>(
     model: &M,
     house: &mut House,
@@ -70,7 +72,7 @@ pub fn open_and_answer<M: MarginModel>(
     number
 }
 
-// The answer in a reply; a market's reply has none.
+// The answer in a reply; a market's reply has none, and an `Option` would be no plainer: a list of account calls gets no such reply.
 fn answer_in(reply: Reply) -> Answer
     ensures { result ≡ answer_in reply }
 {
@@ -84,28 +86,23 @@ fn answer_in(reply: Reply) -> Answer
 fn answers_of(heap: Global, replies: &[Reply]) -> Result<Vec<Answer>, AllocError>
     ensures { IfOk result (λ v. v.items ≡ map answer_in replies.now) }
 {
-    let mut answers: Vec<Answer> = Vec::new(heap);
-    for reply in replies {
-        answers.push(answer_in(*reply))?;
-    }
-    Ok(answers)
+    replies.iter().map(|reply| answer_in(*reply)).collect(heap)
 }
 
 // Reads an event file.
 pub fn read_file(heap: Global, bytes: &[u8]) -> Result<Found, AllocError>
     ensures { IfOk result (λ f. (f.events.items ≡ events_of bytes.now) × (f.fault ≡ fault_of bytes.now)) }
 {
-    let blank = Event::Open {
-        accounts: 0,
-        month: 0,
+    let mut reader = Reader::new(bytes);
+    let mut events = Vec::new(heap);
+    let fault = loop {
+        match reader.next() {
+            Ok(Some(event)) => events.push(event)?,
+            Ok(None) => break None,
+            Err(fault) => break Some(fault),
+        }
     };
-    let mut room = vec![in heap; blank; MOST_EVENTS]?;
-    let reading = read_all(bytes, &mut room);
-    room.truncate(reading.count);
-    Ok(Found {
-        events: room,
-        fault: reading.fault,
-    })
+    Ok(Found { events, fault })
 }
 
 // An opening on new tables, and the calls of the records after it.
@@ -134,44 +131,27 @@ fn play_opened<M: MarginModel>(
         events.as_slice(),
         &mut replies,
     );
-    if day.number != 0 {
-        return Ok(Played {
-            number: Some(day.number),
-            answers: Vec::new(heap),
-        });
-    }
-    let answers = answers_of(heap, replies.as_slice())?;
-    Ok(Played {
-        number: Some(day.number),
-        answers,
-    })
-}
-
-// A first record, and those after it. Only an opening is played.
-fn play_from<M: MarginModel>(
-    heap: Global,
-    model: &M,
-    first: Event,
-    later: &[Event],
-) -> Result<Played, AllocError>
-    ensures { IfOk result (λ p. Plays (M.meaning model.now) (first ∷ later.now) p) }
-{
-    match first {
-        Event::Open { accounts, month } => play_opened(heap, model, accounts, month, later),
-        _ => Ok(Played {
-            number: None,
+    match day {
+        Ok(_) => Ok(Played {
+            number: Some(0),
+            answers: answers_of(heap, replies.as_slice())?,
+        }),
+        Err(refusal) => Ok(Played {
+            number: Some(refusal.number()),
             answers: Vec::new(heap),
         }),
     }
 }
 
-// Plays the records of a file on a house of its own.
+// Plays the records of a file on a house of its own, if the first is an opening.
 pub fn play<M: MarginModel>(heap: Global, model: &M, events: &[Event]) -> Result<Played, AllocError>
     ensures { IfOk result (λ p. Plays (M.meaning model.now) events.now p) }
 {
-    match events.first() {
-        Some(first) => play_from(heap, model, *first, &events[1..]),
-        None => Ok(Played {
+    match events {
+        [Event::Open { accounts, month }, later @ ..] => {
+            play_opened(heap, model, *accounts, *month, later)
+        }
+        _ => Ok(Played {
             number: None,
             answers: Vec::new(heap),
         }),

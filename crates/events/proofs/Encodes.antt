@@ -1,18 +1,19 @@
 -- Reading back what is encoded.
-use Rattle.std.proofs.Common.{◌≡◌, ℕ, zero, suc, ◌+◌, ◌*◌, ◌/◌, ◌%◌, ◌<◌, ◌≤◌, Bool, true, false, eqb, List, [], ◌∷◌, length, get_or, drop, Some, None, Ok, sym, refl, ap, ◌∙◌, arith, length-drop, le-ltb, eq-eqb, ne_eqb}
-use Rattle.std.proofs.lemmas.List.{get_or-drop, drop-drop}
+use Rattle.std.proofs.Common.{◌≡◌, ℕ, zero, suc, ◌+◌, ◌*◌, ◌/◌, ◌%◌, ◌<◌, ◌≤◌, Bool, true, false, eqb, List, [], ◌∷◌, length, drop, Some, None, Ok, sym, refl, ap, ◌∙◌, arith, length-drop, le-ltb, eq-eqb, ne_eqb}
+use Rattle.std.proofs.lemmas.List.{drop-drop}
 use Rattle.std.specs.List.{AllByRecursion}
-use Rattle.events.specs.Numbers.{u8_at, u16_at, u32_at, u64_at}
-use Rattle.events.specs.Kinds.{kind_of, length_of}
+use Rattle.std.proofs.lemmas.List.Elements.{All-from_recursion, recursion_from_All}
+use Rattle.events.specs.Numbers.{u16_at, u64_at}
+use Rattle.events.specs.Kinds.{kind_of, length_of, opens, event_kind}
 use Rattle.events.specs.Record.{event_at}
 use Rattle.events.specs.Steps.{in_turn, head_at, step_at, size_of}
 use Rattle.events.specs.Files.{events_with, fault_with, events_from, fault_from}
-use Rattle.events.specs.Encoded.{bytes_8, encode_all, Fits, Later, Opened, WrittenInBytes, RecordReadBack, FileReadBack}
+use Rattle.events.specs.Encoded.{bytes_8, encode_all, Fits, Opened, WrittenInBytes, RecordReadBack, FileReadBack}
 use Rattle.events.specs.declared.event.Kind.{Kind}
 use Rattle.events.specs.declared.event.Kind.TheVariants as kinds
 use Rattle.events.specs.declared.event.Event.{Event}
 use Rattle.events.specs.declared.event.Event.TheVariants.{Open, Trade, LodgeCash, DrawCash}
-use Rattle.events.specs.declared.step.Step.TheVariants.{Record}
+use Rattle.events.proofs.Behind.{at_1, at_2, at_4, at_8, at_start}
 
 join_1 : (n : ℕ) → n < 256 → n % 256 ≡ n
 join_1 n h = omega arith
@@ -31,36 +32,6 @@ join_8 n h = omega (arith, join_4 (n % 4294967296) (omega arith), join_4 (n / 42
 
 -- what stands behind a place, where the bytes from there on are known
 module _ (bs xs : List ℕ) (i : ℕ) (h : drop i bs ≡ xs) where
-  at_1 : (k : ℕ) → u8_at bs (i + k) ≡ u8_at xs k
-  at_1 k = sym (get_or-drop i bs k 0) ∙ ap (λ l. get_or l k 0) h
-
-  at_2 : (k : ℕ) → u16_at bs (i + k) ≡ u16_at xs k
-  at_2 k =
-      let e : i + k + 1 ≡ i + (k + 1) = omega arith in
-      let a = at_1 k in
-      let b = at_1 (k + 1) in
-      cc
-
-  at_4 : (k : ℕ) → u32_at bs (i + k) ≡ u32_at xs k
-  at_4 k =
-      let e : i + k + 2 ≡ i + (k + 2) = omega arith in
-      let a = at_2 k in
-      let b = at_2 (k + 2) in
-      cc
-
-  at_8 : (k : ℕ) → u64_at bs (i + k) ≡ u64_at xs k
-  at_8 k =
-      let e : i + k + 4 ≡ i + (k + 4) = omega arith in
-      let a = at_4 k in
-      let b = at_4 (k + 4) in
-      cc
-
-  at_start : u16_at bs i ≡ u16_at xs 0
-  at_start =
-      let e : i + 0 ≡ i = omega arith in
-      let a = at_2 0 in
-      cc
-
   reaches : (k : ℕ) → k ≤ length xs → 0 < k → i + k ≤ length bs
   reaches k le lt = omega (arith, length-drop i bs, ap length h)
 
@@ -75,7 +46,7 @@ head_ok bs i code first k c o l le four t =
     let d = eq-eqb (u16_at bs i) (length_of k) l in
     simp (a, c, o, d, b, t)
 
-step_ok : (bs : List ℕ) (i n : ℕ) (k : Kind) (e : Event) → length bs ≤ 65536 → head_at bs i (eqb n 0) ≡ Ok k → i < length bs → event_at bs i k ≡ e → step_at bs i n ≡ Record e
+step_ok : (bs : List ℕ) (i n : ℕ) (k : Kind) (e : Event) → length bs ≤ 65536 → head_at bs i (eqb n 0) ≡ Ok k → i < length bs → event_at bs i k ≡ e → step_at bs i n ≡ Ok (Some e)
 step_ok bs i n k e most h lt v =
     let s = le-ltb 65536 (length bs) most in
     let a : eqb i (length bs) ≡ false = grind arith in
@@ -85,7 +56,7 @@ step_ok bs i n k e most h lt v =
 module _ (bs : List ℕ) (i n : ℕ) (rest : List ℕ) (most : length bs ≤ 65536) where
   done : (k : Kind) (e : Event) (xs : List ℕ) → drop i bs ≡ xs → u16_at xs 0 ≡ length_of k → kind_of (u16_at xs 2) ≡ Some k → length_of k ≤ length xs
       → 4 ≤ length_of k → in_turn (eqb n 0) k ≡ true → event_at bs i k ≡ e → drop (length_of k) xs ≡ rest
-      → (step_at bs i n ≡ Record e) × (drop (i + length_of k) bs ≡ rest) × (i + length_of k ≤ length bs)
+      → (step_at bs i n ≡ Ok (Some e)) × (drop (i + length_of k) bs ≡ rest) × (i + length_of k ≤ length bs)
   done k e xs h l o le four t v r =
       let far = reaches bs xs i h (length_of k) le (omega arith) in
       let good = head_ok bs i (u16_at xs 2) (eqb n 0) k (at_2 bs xs i h 2) o (at_start bs xs i h ∙ l) far four t in
@@ -130,22 +101,26 @@ at_end bs i n f most h le =
     (simp (s, q), simp (s, q))
 
 -- one event, and then the rest
-one_more : (bs : List ℕ) (i n f : ℕ) (e : Event) (es : List Event) → step_at bs i n ≡ Record e
-    → (events_from f bs (i + size_of (Record e)) (n + 1) ≡ es) × (fault_from f bs (i + size_of (Record e)) (n + 1) ≡ None)
+one_more : (bs : List ℕ) (i n f : ℕ) (e : Event) (es : List Event) → step_at bs i n ≡ Ok (Some e)
+    → (events_from f bs (i + size_of (Ok (Some e))) (n + 1) ≡ es) × (fault_from f bs (i + size_of (Ok (Some e))) (n + 1) ≡ None)
     → (events_from (suc f) bs i n ≡ e ∷ es) × (fault_from (suc f) bs i n ≡ None)
 one_more bs i n f e es s m = (
   ap (λ z. events_with z (events_from f bs (i + size_of z) (n + 1))) s ∙ ap (λ z. e ∷ z) m.0,
   ap (λ z. fault_with z (fault_from f bs (i + size_of z) (n + 1))) s ∙ m.1,
 )
 
-later_events : (bs : List ℕ) (i n f : ℕ) (es : List Event) → length bs ≤ 65536 → drop i bs ≡ encode_all es → i ≤ length bs → Later es → AllByRecursion Fits es → 1 ≤ n → length es < f
+-- none is an opening, event by event
+abbrev pub EachLater : List Event → Type 0
+EachLater es = AllByRecursion (λ e. opens (event_kind e) ≡ false) es
+
+later_events : (bs : List ℕ) (i n f : ℕ) (es : List Event) → length bs ≤ 65536 → drop i bs ≡ encode_all es → i ≤ length bs → EachLater es → AllByRecursion Fits es → 1 ≤ n → length es < f
     → (events_from f bs i n ≡ es) × (fault_from f bs i n ≡ None)
 later_events bs i n zero es most h le l w some lt = absurd (omega arith)
 later_events bs i n (suc f) [] most h le l w some lt = at_end bs i n f most h le
 later_events bs i n (suc f) (e ∷ es) most h le l w some lt =
     let z = ne_eqb n 0 (omega arith) in
     let r = record_read_back bs i n e (encode_all es) most h w.0 (simp (z, l.0)) in
-    one_more bs i n f e es r.0 (later_events bs (i + size_of (Record e)) (n + 1) f es most r.1 r.2 l.1 w.1 (omega arith) (omega arith))
+    one_more bs i n f e es r.0 (later_events bs (i + size_of (Ok (Some e))) (n + 1) f es most r.1 r.2 l.1 w.1 (omega arith) (omega arith))
 
 many : (es : List Event) → length es ≤ length (encode_all es)
 many [] = omega arith
@@ -160,18 +135,21 @@ all_events bs zero es most h o w lt = absurd (omega arith)
 all_events bs (suc f) [] most h o w lt = at_end bs 0 0 f most h (omega arith)
 all_events bs (suc f) (e ∷ es) most h o w lt =
     let r = record_read_back bs 0 0 e (encode_all es) most h w.0 o.0 in
-    one_more bs 0 0 f e es r.0 (later_events bs (0 + size_of (Record e)) (0 + 1) f es most r.1 r.2 o.1 w.1 (omega arith) (omega arith))
+    one_more bs 0 0 f e es r.0 (later_events bs (0 + size_of (Ok (Some e))) (0 + 1) f es most r.1 r.2 (recursion_from_All _ es o.1) w.1 (omega arith) (omega arith))
 
 pub file_read_back : FileReadBack
-file_read_back es o w most = all_events (encode_all es) (length (encode_all es) + 1) es most refl o w (omega (arith, many es))
+file_read_back es o w most = all_events (encode_all es) (length (encode_all es) + 1) es most refl o (recursion_from_All Fits es w) (omega (arith, many es))
 
 byte : (n : ℕ) → n % 256 < 256
 byte n = omega arith
 
+written : (es : List Event) → AllByRecursion (λ b. b < 256) (encode_all es)
+written [] = tt
+written (Open a m ∷ es) = (omega arith, (omega arith, (omega arith, (omega arith, (byte a, (byte m, (byte (m / 256), written es)))))))
+written (Trade a m b s y c p ∷ es) =
+    (omega arith, (omega arith, (omega arith, (omega arith, (byte a, (byte m, (byte (m / 256), (byte (m / 65536), (byte (m / 16777216), (byte b, (byte s, (byte y, (byte (y / 256), (byte c, (byte (c / 256), (byte (c / 65536), (byte (c / 16777216), (byte p, (byte (p / 256), (byte (p / 65536), (byte (p / 16777216), written es)))))))))))))))))))))
+written (LodgeCash a m ∷ es) = (omega arith, (omega arith, (omega arith, (omega arith, (byte a, (byte (m % 4294967296), (byte ((m % 4294967296) / 256), (byte ((m % 4294967296) / 65536), (byte ((m % 4294967296) / 16777216), (byte (m / 4294967296), (byte ((m / 4294967296) / 256), (byte ((m / 4294967296) / 65536), (byte ((m / 4294967296) / 16777216), written es)))))))))))))
+written (DrawCash a m ∷ es) = (omega arith, (omega arith, (omega arith, (omega arith, (byte a, (byte (m % 4294967296), (byte ((m % 4294967296) / 256), (byte ((m % 4294967296) / 65536), (byte ((m % 4294967296) / 16777216), (byte (m / 4294967296), (byte ((m / 4294967296) / 256), (byte ((m / 4294967296) / 65536), (byte ((m / 4294967296) / 16777216), written es)))))))))))))
+
 pub written_in_bytes : WrittenInBytes
-written_in_bytes [] = tt
-written_in_bytes (Open a m ∷ es) = (omega arith, (omega arith, (omega arith, (omega arith, (byte a, (byte m, (byte (m / 256), written_in_bytes es)))))))
-written_in_bytes (Trade a m b s y c p ∷ es) =
-    (omega arith, (omega arith, (omega arith, (omega arith, (byte a, (byte m, (byte (m / 256), (byte (m / 65536), (byte (m / 16777216), (byte b, (byte s, (byte y, (byte (y / 256), (byte c, (byte (c / 256), (byte (c / 65536), (byte (c / 16777216), (byte p, (byte (p / 256), (byte (p / 65536), (byte (p / 16777216), written_in_bytes es)))))))))))))))))))))
-written_in_bytes (LodgeCash a m ∷ es) = (omega arith, (omega arith, (omega arith, (omega arith, (byte a, (byte (m % 4294967296), (byte ((m % 4294967296) / 256), (byte ((m % 4294967296) / 65536), (byte ((m % 4294967296) / 16777216), (byte (m / 4294967296), (byte ((m / 4294967296) / 256), (byte ((m / 4294967296) / 65536), (byte ((m / 4294967296) / 16777216), written_in_bytes es)))))))))))))
-written_in_bytes (DrawCash a m ∷ es) = (omega arith, (omega arith, (omega arith, (omega arith, (byte a, (byte (m % 4294967296), (byte ((m % 4294967296) / 256), (byte ((m % 4294967296) / 65536), (byte ((m % 4294967296) / 16777216), (byte (m / 4294967296), (byte ((m / 4294967296) / 256), (byte ((m / 4294967296) / 65536), (byte ((m / 4294967296) / 16777216), written_in_bytes es)))))))))))))
+written_in_bytes es = All-from_recursion (λ b. b < 256) (encode_all es) (written es)

@@ -1,3 +1,4 @@
+pub mod Behind
 pub mod Lefts
 pub mod Stands
 pub mod Encodes

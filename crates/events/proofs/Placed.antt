@@ -1,79 +1,64 @@
 -- Where the events of a file end, and where its fault stands.
-use Rattle.std.proofs.Common.{◌≡◌, ℕ, zero, suc, ◌+◌, ◌<◌, ◌≤◌, Bool, true, false, cond, not, eqb, ltb, List, [], ◌∷◌, ◌++◌, length, get_or, take, drop, Some, None, Ok, Err, Option, Result, sym, refl, ap, ◌∙◌, subst, arith, ltb-false, lt-ltb, ne_eqb, eqb-true}
+use Rattle.std.proofs.Common.{◌≡◌, ℕ, zero, suc, ◌+◌, ◌<◌, ◌≤◌, Bool, true, false, cond, eqb, ltb, List, [], ◌∷◌, ◌++◌, length, get_or, take, drop, Some, None, Ok, Err, Option, Result, sym, refl, ap, ◌∙◌, subst, arith, ltb-false, lt-ltb, ne_eqb, eqb-true}
 use Rattle.std.proofs.lemmas.List.{take_at, drop_all}
-use Rattle.std.specs.List.{AllByRecursion}
+use Rattle.std.specs.List.{All, AllByRecursion}
+use Rattle.std.proofs.lemmas.List.Elements.{All-from_recursion}
+use Rattle.events.proofs.Encodes.{EachLater}
 use Rattle.events.specs.Kinds.{length_of, opens, event_kind}
 use Rattle.events.specs.Faults.{too_long}
-use Rattle.events.specs.Steps.{in_turn, head_at, step_by, step_at, size_of}
+use Rattle.events.specs.Steps.{Step, in_turn, head_at, step_by, step_at, size_of}
 use Rattle.events.specs.Files.{events_with, fault_with, events_from, fault_from, events_of, fault_of}
 use Rattle.events.specs.Encoded.{encoded, encode_all, Fits, Later, Opened, EventsEncodeFile, EventsReachFault}
 use Rattle.events.specs.declared.event.Kind.{Kind}
 use Rattle.events.specs.declared.event.Event.{Event}
-use Rattle.events.specs.declared.event.Event.TheVariants.{Open, Trade, LodgeCash, DrawCash}
-use Rattle.events.specs.declared.fault.Fault as faults
+use Rattle.events.specs.declared.fault.Fault.{Fault}
 use Rattle.events.specs.declared.fault.FaultReason.{FaultReason}
-use Rattle.events.specs.declared.step.Step.{Step}
-use Rattle.events.specs.declared.step.Step.TheVariants.{End, Fault, Record}
 use Rattle.events.proofs.Stands.{stands, any_long}
 use Rattle.events.proofs.Rewrites.{each_byte, fits_at, record_again}
 
 -- from i on, after n records: these events and then this fault, or the end
-abbrev Placed : List ℕ → ℕ → ℕ → List Event → Option faults.Fault → Type 0
+abbrev Placed : List ℕ → ℕ → ℕ → List Event → Option Fault → Type 0
 Placed bs i n es None = drop i bs ≡ encode_all es
 Placed bs i n es (Some f) =
     (drop i bs ≡ encode_all es ++ drop f.offset bs) × (f.offset ≤ length bs) × (i + length (encode_all es) ≡ f.offset) × (f.ordinal ≡ n + length es + 1)
 
-end_by : (bs : List ℕ) (i n : ℕ) (t u : Bool) (h : Result Kind FaultReason) → cond t (Fault too_long) (cond u End (step_by bs i n h)) ≡ End → u ≡ true
-end_by bs i n true u h p = let z : ◌≡◌ {A = ℕ} 0 1 = cc in absurd (omega arith)
-end_by bs i n false true h p = refl
-end_by bs i n false false (Ok k) p = let z : ◌≡◌ {A = ℕ} 0 1 = cc in absurd (omega arith)
-end_by bs i n false false (Err w) p = let z : ◌≡◌ {A = ℕ} 0 1 = cc in absurd (omega arith)
+end_by : (bs : List ℕ) (i n : ℕ) (t u : Bool) (h : Result Kind FaultReason) → cond t (Err too_long) (cond u (Ok None) (step_by bs i n h)) ≡ Ok None → u ≡ true
+end_by bs i n t u h p = grind arith
 
-fault_by : (bs : List ℕ) (i n : ℕ) (f : faults.Fault) (t u : Bool) (h : Result Kind FaultReason) → t ≡ false → cond t (Fault too_long) (cond u End (step_by bs i n h)) ≡ Fault f
+fault_by : (bs : List ℕ) (i n : ℕ) (f : Fault) (t u : Bool) (h : Result Kind FaultReason) → t ≡ false → cond t (Err too_long) (cond u (Ok None) (step_by bs i n h)) ≡ Err f
     → (f.offset ≡ i) × (f.ordinal ≡ n + 1)
-fault_by bs i n f true u h q p = let z : ◌≡◌ {A = ℕ} 0 1 = cc in absurd (omega arith)
-fault_by bs i n f false true h q p = let z : ◌≡◌ {A = ℕ} 0 1 = cc in absurd (omega arith)
-fault_by bs i n f false false (Ok k) q p = let z : ◌≡◌ {A = ℕ} 0 1 = cc in absurd (omega arith)
-fault_by bs i n f false false (Err w) q p =
-    let e : record { ordinal = n + 1; reason = w; offset = i } ≡ f = cc in
-    (sym (ap (λ x. x.offset) e), sym (ap (λ x. x.ordinal) e))
+fault_by bs i n f t u h q p = grind arith
 
 onto : (e : Event) (r s : List ℕ) → encoded e r ++ s ≡ encoded e (r ++ s)
-onto (Open a m) r s = refl
-onto (Trade a m b d y c p) r s = refl
-onto (LodgeCash a m) r s = refl
-onto (DrawCash a m) r s = refl
+onto e r s = grind arith
 
 long_as : (e : Event) (r : List ℕ) → length (encoded e r) ≡ length_of (event_kind e) + length r
-long_as (Open a m) r = omega arith
-long_as (Trade a m b d y c p) r = omega arith
-long_as (LodgeCash a m) r = omega arith
-long_as (DrawCash a m) r = omega arith
+long_as e r = grind arith
 
 module _ (bs : List ℕ) (byte : (k : ℕ) → get_or bs k 0 < 256) where
   -- a record that was read, encoded again
-  once_more : (i n : ℕ) (e : Event) → step_at bs i n ≡ Record e → drop i bs ≡ encoded e (drop (i + length_of (event_kind e)) bs)
+  once_more : (i n : ℕ) (e : Event) → step_at bs i n ≡ Ok (Some e) → drop i bs ≡ encoded e (drop (i + length_of (event_kind e)) bs)
   once_more i n e h =
       let d = stands bs i n e h in
       record_again bs i byte (event_kind e) d.long d.code d.there ∙ ap (λ z. encoded z (drop (i + length_of (event_kind e)) bs)) d.event
 
-  placed_more : (i n : ℕ) (e : Event) (es : List Event) (o : Option faults.Fault) → drop i bs ≡ encoded e (drop (i + length_of (event_kind e)) bs)
+  placed_more : (i n : ℕ) (e : Event) (es : List Event) (o : Option Fault) → drop i bs ≡ encoded e (drop (i + length_of (event_kind e)) bs)
       → Placed bs (i + length_of (event_kind e)) (n + 1) es o → Placed bs i n (e ∷ es) o
   placed_more i n e es None w m = w ∙ ap (encoded e) m
   placed_more i n e es (Some f) w m =
       let l = long_as e (encode_all es) in
       (w ∙ ap (encoded e) m.0 ∙ sym (onto e (encode_all es) (drop f.offset bs)), m.1, omega (arith, m.2), omega (arith, m.3))
 
-  placed_step : (i n : ℕ) (s : Step) (es : List Event) (o : Option faults.Fault) → length bs ≤ 65536 → i ≤ length bs → step_at bs i n ≡ s
+  placed_step : (i n : ℕ) (s : Step) (es : List Event) (o : Option Fault) → length bs ≤ 65536 → i ≤ length bs → step_at bs i n ≡ s
       → (i + size_of s ≤ length bs → 1 ≤ size_of s → Placed bs (i + size_of s) (n + 1) es o) → Placed bs i n (events_with s es) (fault_with s o)
-  placed_step i n End es o most le h next =
+  placed_step i n (Ok None) es o most le h next =
       let e = eqb-true i (length bs) (end_by bs i n (ltb 65536 (length bs)) (eqb i (length bs)) (head_at bs i (eqb n 0)) h) in
       drop_all i bs (omega arith)
-  placed_step i n (Fault f) es o most le h next =
+  placed_step i n (Err f) es o most le h next =
       let t : ltb 65536 (length bs) ≡ false = grind arith in
       let p = fault_by bs i n f (ltb 65536 (length bs)) (eqb i (length bs)) (head_at bs i (eqb n 0)) t h in
       (sym (ap (λ z. drop z bs) p.0), omega (arith, p.0), omega (arith, p.0), omega (arith, p.1))
-  placed_step i n (Record e) es o most le h next =
+  placed_step i n (Ok (Some e)) es o most le h next =
       let d = stands bs i n e h in
       placed_more i n e es o (once_more i n e h) (next d.there (omega (arith, any_long (event_kind e))))
 
@@ -83,36 +68,36 @@ module _ (bs : List ℕ) (byte : (k : ℕ) → get_or bs k 0 < 256) where
       placed_step i n (step_at bs i n) _ _ most le refl (λ far some. placed_from steps (i + size_of (step_at bs i n)) (n + 1) most far (omega arith))
 
   fits_step : (i n : ℕ) (s : Step) (es : List Event) → step_at bs i n ≡ s → AllByRecursion Fits es → AllByRecursion Fits (events_with s es)
-  fits_step i n End es h w = tt
-  fits_step i n (Fault f) es h w = tt
-  fits_step i n (Record e) es h w = (subst Fits (stands bs i n e h).event (fits_at bs i byte (event_kind e)), w)
+  fits_step i n (Ok None) es h w = tt
+  fits_step i n (Err f) es h w = tt
+  fits_step i n (Ok (Some e)) es h w = (subst Fits (stands bs i n e h).event (fits_at bs i byte (event_kind e)), w)
 
   fits_from : (steps i n : ℕ) → AllByRecursion Fits (events_from steps bs i n)
   fits_from zero i n = tt
   fits_from (suc steps) i n = fits_step i n (step_at bs i n) _ refl (fits_from steps (i + size_of (step_at bs i n)) (n + 1))
 
   later_turn : (k : Kind) → in_turn false k ≡ true → opens k ≡ false
-  later_turn k h = let by : (b : Bool) → not b ≡ true → b ≡ false = λ b. elim b as (λ x. not x ≡ true → x ≡ false) [ true ↦ λ q. sym q | false ↦ λ q. refl ] in by (opens k) h
+  later_turn k h = grind arith
 
-  later_step : (i n : ℕ) (s : Step) (es : List Event) → step_at bs i n ≡ s → 1 ≤ n → Later es → Later (events_with s es)
-  later_step i n End es h some l = tt
-  later_step i n (Fault f) es h some l = tt
-  later_step i n (Record e) es h some l =
+  later_step : (i n : ℕ) (s : Step) (es : List Event) → step_at bs i n ≡ s → 1 ≤ n → EachLater es → EachLater (events_with s es)
+  later_step i n (Ok None) es h some l = tt
+  later_step i n (Err f) es h some l = tt
+  later_step i n (Ok (Some e)) es h some l =
       let z = ne_eqb n 0 (omega arith) in
       (later_turn (event_kind e) (rw z at (stands bs i n e h).turn), l)
 
-  later_from : (steps i n : ℕ) → 1 ≤ n → Later (events_from steps bs i n)
+  later_from : (steps i n : ℕ) → 1 ≤ n → EachLater (events_from steps bs i n)
   later_from zero i n some = tt
   later_from (suc steps) i n some = later_step i n (step_at bs i n) _ refl some (later_from steps (i + size_of (step_at bs i n)) (n + 1) (omega arith))
 
   opened_step : (s : Step) (es : List Event) → step_at bs 0 0 ≡ s → Later es → Opened (events_with s es)
-  opened_step End es h l = tt
-  opened_step (Fault f) es h l = tt
-  opened_step (Record e) es h l = ((stands bs 0 0 e h).turn, l)
+  opened_step (Ok None) es h l = tt
+  opened_step (Err f) es h l = tt
+  opened_step (Ok (Some e)) es h l = ((stands bs 0 0 e h).turn, l)
 
   opened_from : (steps : ℕ) → Opened (events_from steps bs 0 0)
   opened_from zero = tt
-  opened_from (suc steps) = opened_step (step_at bs 0 0) _ refl (later_from steps (0 + size_of (step_at bs 0 0)) (0 + 1) (omega arith))
+  opened_from (suc steps) = opened_step (step_at bs 0 0) _ refl (All-from_recursion _ _ (later_from steps (0 + size_of (step_at bs 0 0)) (0 + 1) (omega arith)))
 
   placed_of : length bs ≤ 65536 → Placed bs 0 0 (events_of bs) (fault_of bs)
   placed_of most = placed_from (length bs + 1) 0 0 most (omega arith) (omega arith)
@@ -128,7 +113,7 @@ over bs lt =
     (ap (λ z. events_from z bs 0 0) s ∙ o.0, ap (λ z. fault_from z bs 0 0) s ∙ o.1)
 
 short_by : (bs : List ℕ) (t : Bool) (steps : ℕ) → ltb 65536 (length bs) ≡ t → fault_from (suc steps) bs 0 0 ≡ None → length bs ≤ 65536
-short_by bs true steps h e = let z : ◌≡◌ {A = ℕ} 0 1 = cc (simp h at e) in absurd (omega arith)
+short_by bs true steps h e = absurd (grind arith)
 short_by bs false steps h e = ltb-false 65536 (length bs) h
 
 short_from : (bs : List ℕ) → fault_of bs ≡ None → length bs ≤ 65536
@@ -137,12 +122,12 @@ short_from bs e =
     short_by bs (ltb 65536 (length bs)) (length bs) refl (ap (λ z. fault_from z bs 0 0) (sym s) ∙ e)
 
 module _ (bs : List ℕ) (byte : (k : ℕ) → get_or bs k 0 < 256) where
-  pub no_fault_by : fault_of bs ≡ None → (encode_all (events_of bs) ≡ bs) × Opened (events_of bs) × AllByRecursion Fits (events_of bs)
+  pub no_fault_by : fault_of bs ≡ None → (encode_all (events_of bs) ≡ bs) × Opened (events_of bs) × All Fits (events_of bs)
   no_fault_by h =
       let p = subst (λ o. Placed bs 0 0 (events_of bs) o) h (placed_of bs byte (short_from bs h)) in
-      (sym p, opened_from bs byte (length bs + 1), fits_from bs byte (length bs + 1) 0 0)
+      (sym p, opened_from bs byte (length bs + 1), All-from_recursion Fits _ (fits_from bs byte (length bs + 1) 0 0))
 
-  pub to_fault_by : (f : faults.Fault) → length bs ≤ 65536 → fault_of bs ≡ Some f
+  pub to_fault_by : (f : Fault) → length bs ≤ 65536 → fault_of bs ≡ Some f
       → (encode_all (events_of bs) ≡ take f.offset bs) × (f.offset ≤ length bs) × (f.ordinal ≡ length (events_of bs) + 1)
   to_fault_by f most h =
       let p = subst (λ o. Placed bs 0 0 (events_of bs) o) h (placed_of bs byte most) in

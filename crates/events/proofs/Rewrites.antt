@@ -1,7 +1,8 @@
 -- Encoding again what was read.
 use Rattle.std.proofs.Common.{◌≡◌, ℕ, zero, suc, ◌+◌, ◌*◌, ◌/◌, ◌%◌, ◌<◌, ◌≤◌, List, [], ◌∷◌, length, get_or, drop, sym, refl, ap, ◌∙◌, arith}
 use Rattle.std.proofs.lemmas.List.{get_or_past, drop_more}
-use Rattle.std.specs.List.{AllByRecursion}
+use Rattle.std.specs.List.{All, AllByRecursion}
+use Rattle.std.proofs.lemmas.List.Elements.{recursion_from_All}
 use Rattle.events.specs.Numbers.{u8_at, u16_at, u32_at, u64_at}
 use Rattle.events.specs.Kinds.{code_of, length_of}
 use Rattle.events.specs.Record.{event_at}
@@ -34,10 +35,13 @@ unrolled bs i j (suc k) le =
     drop_more bs (i + j) 0 (omega arith) ∙ ap (λ z. get_or bs (i + j) 0 ∷ drop z bs) e ∙ ap (λ z. get_or bs (i + j) 0 ∷ z) m
     ∙ ap (λ z. get_or bs (i + j) 0 ∷ window bs i (j + 1) k (drop z bs)) d
 
-pub each_byte : (bs : List ℕ) → AllByRecursion (λ b. b < 256) bs → (k : ℕ) → get_or bs k 0 < 256
-each_byte [] h k = omega (arith, get_or_past {X = ℕ} [] k 0 (omega arith))
-each_byte (b ∷ bs) h zero = h.0
-each_byte (b ∷ bs) h (suc k) = each_byte bs h.1 k
+each : (bs : List ℕ) → AllByRecursion (λ b. b < 256) bs → (k : ℕ) → get_or bs k 0 < 256
+each [] h k = omega (arith, get_or_past {X = ℕ} [] k 0 (omega arith))
+each (b ∷ bs) h zero = h.0
+each (b ∷ bs) h (suc k) = each bs h.1 k
+
+pub each_byte : (bs : List ℕ) → All (λ b. b < 256) bs → (k : ℕ) → get_or bs k 0 < 256
+each_byte bs h = each bs (recursion_from_All (λ b. b < 256) bs h)
 
 module _ (bs : List ℕ) (i : ℕ) (byte : (k : ℕ) → get_or bs k 0 < 256) where
   wide_2 : (j : ℕ) → u16_at bs j < 65536

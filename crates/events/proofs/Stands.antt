@@ -4,15 +4,12 @@ use Rattle.events.specs.Numbers.{u16_at}
 use Rattle.events.specs.Kinds.{kind_of, code_of, length_of, event_kind}
 use Rattle.events.specs.Faults.{too_long}
 use Rattle.events.specs.Record.{event_at}
-use Rattle.events.specs.Steps.{in_turn, head_by, head_at, step_by, step_at, size_of}
+use Rattle.events.specs.Steps.{Step, in_turn, head_by, head_at, step_by, step_at, size_of}
 use Rattle.events.specs.Files.{events_with, events_from, events_of}
 use Rattle.events.specs.declared.event.Kind.{Kind}
-use Rattle.events.specs.declared.event.Kind.TheVariants as kinds
 use Rattle.events.specs.declared.event.Event.{Event}
 use Rattle.events.specs.declared.fault.FaultReason.{FaultReason}
 use Rattle.events.specs.declared.fault.FaultReason.TheVariants.{Cut, WrongLength, OutOfPlace}
-use Rattle.events.specs.declared.step.Step.{Step}
-use Rattle.events.specs.declared.step.Step.TheVariants.{End, Fault, Record}
 
 -- the record of e stands at i, after n records
 pub record Stands (bs : List ℕ) (i n : ℕ) (e : Event) : Type 0 where
@@ -23,23 +20,12 @@ pub record Stands (bs : List ℕ) (i n : ℕ) (e : Event) : Type 0 where
   pub turn : in_turn (eqb n 0) (event_kind e) ≡ true
   pub event : event_at bs i (event_kind e) ≡ e
 
-code_by : (n : ℕ) (k : Kind) (a b c d : Bool) → eqb n 1 ≡ a → eqb n 10 ≡ b → eqb n 12 ≡ c → eqb n 13 ≡ d
-    → cond a (Some kinds.Open) (cond b (Some kinds.Trade) (cond c (Some kinds.LodgeCash) (cond d (Some kinds.DrawCash) None))) ≡ Some k → n ≡ code_of k
-code_by n k true b c d p q r s h = let e : kinds.Open ≡ k = cc in eqb-true n 1 p ∙ ap code_of e
-code_by n k false true c d p q r s h = let e : kinds.Trade ≡ k = cc in eqb-true n 10 q ∙ ap code_of e
-code_by n k false false true d p q r s h = let e : kinds.LodgeCash ≡ k = cc in eqb-true n 12 r ∙ ap code_of e
-code_by n k false false false true p q r s h = let e : kinds.DrawCash ≡ k = cc in eqb-true n 13 s ∙ ap code_of e
-code_by n k false false false false p q r s h = let z : ◌≡◌ {A = ℕ} 0 1 = cc in absurd (omega arith)
-
 pub code_from : (n : ℕ) (k : Kind) → kind_of n ≡ Some k → n ≡ code_of k
-code_from n k h = code_by n k (eqb n 1) (eqb n 10) (eqb n 12) (eqb n 13) refl refl refl refl h
+code_from n k h = grind arith
 
 tests : (j k : Kind) (a b c : Bool) → cond a (cond b (Err Cut) (cond c (Ok j) (Err OutOfPlace))) (Err WrongLength) ≡ Ok k
     → (a ≡ true) × (b ≡ false) × (c ≡ true) × (j ≡ k)
-tests j k false b c h = let z : ◌≡◌ {A = ℕ} 0 1 = cc in absurd (omega arith)
-tests j k true true c h = let z : ◌≡◌ {A = ℕ} 0 1 = cc in absurd (omega arith)
-tests j k true false false h = let z : ◌≡◌ {A = ℕ} 0 1 = cc in absurd (omega arith)
-tests j k true false true h = let e : j ≡ k = cc in (refl, refl, refl, e)
+tests j k a b c h = grind arith
 
 -- a head that is no fault
 pub record Headed (bs : List ℕ) (i : ℕ) (first : Bool) (k : Kind) : Type 0 where
@@ -49,7 +35,7 @@ pub record Headed (bs : List ℕ) (i : ℕ) (first : Bool) (k : Kind) : Type 0 w
   pub turn : in_turn first k ≡ true
 
 headed_by : (bs : List ℕ) (i : ℕ) (first : Bool) (k : Kind) (o : Option Kind) → kind_of (u16_at bs (i + 2)) ≡ o → head_by bs i first o ≡ Ok k → Headed bs i first k
-headed_by bs i first k None c h = let z : ◌≡◌ {A = ℕ} 0 1 = cc in absurd (omega arith)
+headed_by bs i first k None c h = grind arith
 headed_by bs i first k (Some j) c h =
     let t = tests j k (eqb (u16_at bs i) (length_of j)) (ltb (length bs) (i + length_of j)) (in_turn first j) h in
     let e : j ≡ k = t.3 in
@@ -61,20 +47,17 @@ headed_by bs i first k (Some j) c h =
     }
 
 headed_at : (bs : List ℕ) (i : ℕ) (first : Bool) (k : Kind) (t : Bool) → cond t (Err Cut) (head_by bs i first (kind_of (u16_at bs (i + 2)))) ≡ Ok k → Headed bs i first k
-headed_at bs i first k true h = let z : ◌≡◌ {A = ℕ} 0 1 = cc in absurd (omega arith)
+headed_at bs i first k true h = grind arith
 headed_at bs i first k false h = headed_by bs i first k (kind_of (u16_at bs (i + 2))) refl h
 
 kind_at : (bs : List ℕ) (i : ℕ) (k : Kind) → event_kind (event_at bs i k) ≡ k
-kind_at bs i kinds.Open = refl
-kind_at bs i kinds.Trade = refl
-kind_at bs i kinds.LodgeCash = refl
-kind_at bs i kinds.DrawCash = refl
+kind_at bs i k = grind arith
 
 stands_by : (bs : List ℕ) (i n : ℕ) (e : Event) (t u : Bool) (h : Result Kind FaultReason) → ltb 65536 (length bs) ≡ t → head_at bs i (eqb n 0) ≡ h
-    → cond t (Fault too_long) (cond u End (step_by bs i n h)) ≡ Record e → Stands bs i n e
-stands_by bs i n e true u h a b p = let z : ◌≡◌ {A = ℕ} 0 1 = cc in absurd (omega arith)
-stands_by bs i n e false true h a b p = let z : ◌≡◌ {A = ℕ} 0 1 = cc in absurd (omega arith)
-stands_by bs i n e false false (Err w) a b p = let z : ◌≡◌ {A = ℕ} 0 1 = cc in absurd (omega arith)
+    → cond t (Err too_long) (cond u (Ok None) (step_by bs i n h)) ≡ Ok (Some e) → Stands bs i n e
+stands_by bs i n e true u h a b p = grind arith
+stands_by bs i n e false true h a b p = grind arith
+stands_by bs i n e false false (Err w) a b p = grind arith
 stands_by bs i n e false false (Ok k) a b p =
     let v : event_at bs i k ≡ e = cc in
     let q : k ≡ event_kind e = sym (kind_at bs i k) ∙ ap event_kind v in
@@ -88,26 +71,20 @@ stands_by bs i n e false false (Ok k) a b p =
       event = rw (← q) v;
     }
 
-pub stands : (bs : List ℕ) (i n : ℕ) (e : Event) → step_at bs i n ≡ Record e → Stands bs i n e
+pub stands : (bs : List ℕ) (i n : ℕ) (e : Event) → step_at bs i n ≡ Ok (Some e) → Stands bs i n e
 stands bs i n e p = stands_by bs i n e (ltb 65536 (length bs)) (eqb i (length bs)) (head_at bs i (eqb n 0)) refl refl p
 
 later_long : (k : Kind) → in_turn false k ≡ true → 13 ≤ length_of k
-later_long kinds.Open h = let z : ◌≡◌ {A = ℕ} 0 1 = cc in absurd (omega arith)
-later_long kinds.Trade h = omega arith
-later_long kinds.LodgeCash h = omega arith
-later_long kinds.DrawCash h = omega arith
+later_long k h = grind arith
 
 pub any_long : (k : Kind) → 7 ≤ length_of k
-any_long kinds.Open = omega arith
-any_long kinds.Trade = omega arith
-any_long kinds.LodgeCash = omega arith
-any_long kinds.DrawCash = omega arith
+any_long k = grind arith
 
 few_step : (bs : List ℕ) (i n : ℕ) (s : Step) (more : List Event) → step_at bs i n ≡ s → 1 ≤ n → i ≤ 65536
     → (i + size_of s ≤ 65536 → 13 * length more + (i + size_of s) ≤ 65536) → 13 * length (events_with s more) + i ≤ 65536
-few_step bs i n End more h some le next = omega arith
-few_step bs i n (Fault f) more h some le next = omega arith
-few_step bs i n (Record e) more h some le next =
+few_step bs i n (Ok None) more h some le next = omega arith
+few_step bs i n (Err f) more h some le next = omega arith
+few_step bs i n (Ok (Some e)) more h some le next =
     let d = stands bs i n e h in
     let z = ne_eqb n 0 (omega arith) in
     let k = later_long (event_kind e) (rw z at d.turn) in
@@ -121,9 +98,9 @@ few_later (suc steps) bs i n some le =
 
 few_first : (bs : List ℕ) (s : Step) (more : List Event) → step_at bs 0 0 ≡ s → (0 + size_of s ≤ 65536 → 13 * length more + (0 + size_of s) ≤ 65536)
     → length (events_with s more) ≤ 5041
-few_first bs End more h next = omega arith
-few_first bs (Fault f) more h next = omega arith
-few_first bs (Record e) more h next =
+few_first bs (Ok None) more h next = omega arith
+few_first bs (Err f) more h next = omega arith
+few_first bs (Ok (Some e)) more h next =
     let d = stands bs 0 0 e h in
     let k = any_long (event_kind e) in
     omega (arith, next (omega arith))

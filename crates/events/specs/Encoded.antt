@@ -11,15 +11,13 @@
 --   FileReadBack         a file that is encoded from events in turn is read as those events, with no fault
 --   EventsEncodeFile     a file with no fault is the encoding of its events, which are in turn and within their widths
 --   EventsReachFault     the bytes before a fault are the encoding of the events, and the fault has the record number after theirs
-use Rattle.std.specs.Prelude.{◌≡◌, ℕ, ◌+◌, ◌/◌, ◌%◌, ◌<◌, ◌≤◌, true, false, List, [], ◌∷◌, length, take, drop, Some, None, ◌==◌}
-use Rattle.std.specs.List.{AllByRecursion}
+use Rattle.std.specs.Prelude.{◌≡◌, ℕ, ◌+◌, ◌/◌, ◌%◌, ◌<◌, ◌≤◌, true, false, List, [], ◌∷◌, length, take, drop, Some, None, Ok, All, ◌==◌}
 use Rattle.events.specs.Kinds.{code_of, length_of, opens, event_kind}
-use Rattle.events.specs.Steps.{step_at, size_of, in_turn}
+use Rattle.events.specs.Steps.{step_at, in_turn}
 use Rattle.events.specs.Files.{events_of, fault_of}
 use Rattle.events.specs.declared.event.Event.{Event}
 use Rattle.events.specs.declared.event.Event.TheVariants.{Open, Trade, LodgeCash, DrawCash}
 use Rattle.events.specs.declared.fault.Fault.{Fault}
-use Rattle.events.specs.declared.step.Step.TheVariants.{Record}
 
 abbrev pub bytes_2 : ℕ → List ℕ → List ℕ
 bytes_2 n r = n % 256 ∷ n / 256 % 256 ∷ r
@@ -50,29 +48,29 @@ Fits (LodgeCash a m) = (a < 256) × (m < 18446744073709551616)
 Fits (DrawCash a m) = (a < 256) × (m < 18446744073709551616)
 
 abbrev pub Later : List Event → Type 0
-Later es = AllByRecursion (λ e. opens (event_kind e) ≡ false) es
+Later es = All (λ e. opens (event_kind e) ≡ false) es
 
 abbrev pub Opened : List Event → Type 0
 Opened [] = Unit {0}
 Opened (e ∷ es) = (opens (event_kind e) ≡ true) × Later es
 
 abbrev pub WrittenInBytes : Type 0
-WrittenInBytes = (es : List Event) → AllByRecursion (λ b. b < 256) (encode_all es)
+WrittenInBytes = (es : List Event) → All (λ b. b < 256) (encode_all es)
 
 abbrev pub RecordReadBack : Type 0
 RecordReadBack =
     (bs : List ℕ) (i n : ℕ) (e : Event) (rest : List ℕ) → length bs ≤ 65536 → drop i bs ≡ encoded e rest → Fits e → in_turn (n == 0) (event_kind e) ≡ true
-    → (step_at bs i n ≡ Record e) × (drop (i + size_of (Record e)) bs ≡ rest) × (i + size_of (Record e) ≤ length bs)
+    → (step_at bs i n ≡ Ok (Some e)) × (drop (i + length_of (event_kind e)) bs ≡ rest) × (i + length_of (event_kind e) ≤ length bs)
 
 abbrev pub FileReadBack : Type 0
 FileReadBack =
-    (es : List Event) → Opened es → AllByRecursion Fits es → length (encode_all es) ≤ 65536 → (events_of (encode_all es) ≡ es) × (fault_of (encode_all es) ≡ None)
+    (es : List Event) → Opened es → All Fits es → length (encode_all es) ≤ 65536 → (events_of (encode_all es) ≡ es) × (fault_of (encode_all es) ≡ None)
 
 abbrev pub EventsEncodeFile : Type 0
 EventsEncodeFile =
-    (bs : List ℕ) → AllByRecursion (λ b. b < 256) bs → fault_of bs ≡ None → (encode_all (events_of bs) ≡ bs) × Opened (events_of bs) × AllByRecursion Fits (events_of bs)
+    (bs : List ℕ) → All (λ b. b < 256) bs → fault_of bs ≡ None → (encode_all (events_of bs) ≡ bs) × Opened (events_of bs) × All Fits (events_of bs)
 
 abbrev pub EventsReachFault : Type 0
 EventsReachFault =
-    (bs : List ℕ) (f : Fault) → AllByRecursion (λ b. b < 256) bs → length bs ≤ 65536 → fault_of bs ≡ Some f
+    (bs : List ℕ) (f : Fault) → All (λ b. b < 256) bs → length bs ≤ 65536 → fault_of bs ≡ Some f
     → (encode_all (events_of bs) ≡ take f.offset bs) × (f.offset ≤ length bs) × (f.ordinal ≡ length (events_of bs) + 1)

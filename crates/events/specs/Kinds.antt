@@ -1,18 +1,24 @@
 -- The kinds of record.
 --   kind_of      the kind of a code, if there is one
+--   Decodes      a conversion gives the kind of its code, or that no kind has this code
 --   code_of      the code of a kind
 --   length_of    the length of a whole record of a kind, in bytes
 --   opens        whether a kind opens the house: it stands first in a file, and nowhere else
 --   event_kind   the kind of the record that says an event
-use Rattle.std.specs.Prelude.{ℕ, Bool, true, false, cond, Some, None, Option, ◌==◌}
+use Rattle.std.specs.Prelude.{◌≡◌, ℕ, Bool, true, false, if◌then◌else◌, Some, None, Ok, Err, Option, Result, ◌==◌}
 use Rattle.events.specs.declared.event.Event.{Event}
 use Rattle.events.specs.declared.event.Event.TheVariants as events
 use Rattle.events.specs.declared.event.Kind.{Kind}
 use Rattle.events.specs.declared.event.Kind.TheVariants.{Open, Trade, LodgeCash, DrawCash}
+use Rattle.events.specs.declared.event.UnknownKind.{UnknownKind}
 
 abbrev pub kind_of : ℕ → Option Kind
 kind_of code =
-    cond (code == 1) (Some Open) (cond (code == 10) (Some Trade) (cond (code == 12) (Some LodgeCash) (cond (code == 13) (Some DrawCash) None)))
+    (if code == 1 then Some Open else (if code == 10 then Some Trade else (if code == 12 then Some LodgeCash else (if code == 13 then Some DrawCash else None))))
+
+abbrev pub Decodes : ℕ → Result Kind UnknownKind → Type 0
+Decodes code (Ok k) = kind_of code ≡ Some k
+Decodes code (Err e) = (kind_of code ≡ None) × (e.0 ≡ code)
 
 abbrev pub code_of : Kind → ℕ
 code_of Open = 1

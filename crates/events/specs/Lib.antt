@@ -8,3 +8,4 @@ pub mod Left
 pub mod Encoded
 pub mod Readings
 pub mod Worked
+pub mod Printing

@@ -1,8 +1,8 @@
 // The events of a file, and the kinds of record that say them.
 ghost use Rattle.std.specs.Prelude.{◌≡◌};
-ghost use Rattle.events.specs.Kinds.{kind_of, code_of, length_of, opens, event_kind};
+ghost use Rattle.events.specs.Kinds.{code_of, length_of, event_kind, Decodes};
 
-#[derive(Clone, Copy)]
+#[derive(Clone, Copy, Debug, PartialEq, Eq)]
 pub enum Event {
     // Opens the house with so many accounts, in a month counted from January 2000.
     Open {
@@ -44,7 +44,7 @@ impl Event {
     }
 }
 
-#[derive(Clone, Copy)]
+#[derive(Clone, Copy, Debug, PartialEq, Eq)]
 pub enum Kind {
     Open,
     Trade,
@@ -56,20 +56,7 @@ pub enum Kind {
 const LENGTHS: [u16; 4] = [7, 21, 13, 13];
 
 impl Kind {
-    // The kind of a code, if there is one.
-    pub fn of(code: u16) -> Option<Kind>
-        ensures { result ≡ kind_of code }
-    {
-        match code {
-            1 => Some(Kind::Open),
-            10 => Some(Kind::Trade),
-            12 => Some(Kind::LodgeCash),
-            13 => Some(Kind::DrawCash),
-            _ => None,
-        }
-    }
-
-    // Its code in the file.
+    // Its code in the file. It is no discriminant, since those are the kind's places in the table of lengths.
     pub fn code(self) -> u16
         ensures { result ≡ code_of self }
     {
@@ -87,11 +74,32 @@ impl Kind {
     {
         LENGTHS[self as usize]
     }
+}
 
-    // Whether it opens the house.
-    pub(crate) fn is_open(self) -> bool
-        ensures { result ≡ opens self }
-    {
-        matches!(self, Kind::Open)
+impl From<Kind> for u16 {
+    ghost from_gives = { λ kind code. code ≡ code_of kind };
+
+    fn from(kind: Kind) -> u16 {
+        kind.code()
+    }
+}
+
+// A code that no kind of record has.
+#[derive(Clone, Copy, Debug, PartialEq, Eq)]
+pub struct UnknownKind(pub u16);
+
+impl TryFrom<u16> for Kind {
+    type Error = UnknownKind;
+
+    ghost try_from_gives = { Decodes };
+
+    fn try_from(code: u16) -> Result<Kind, UnknownKind> {
+        match code {
+            1 => Ok(Kind::Open),
+            10 => Ok(Kind::Trade),
+            12 => Ok(Kind::LodgeCash),
+            13 => Ok(Kind::DrawCash),
+            _ => Err(UnknownKind(code)),
+        }
     }
 }

@@ -9,4 +9,3 @@ mod numbers;
 pub mod reader;
 pub mod reading;
 mod record;
-pub mod step;

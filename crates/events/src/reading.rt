@@ -4,21 +4,28 @@ ghost use Rattle.events.specs.Readings.{ReadInto};
 use super::event::Event;
 use super::fault::Fault;
 use super::reader::Reader;
-use super::step::Step;
 
-// How a reading ended: so many events, the fault after them if there is one, and whether a further
-// event found no room. A reading that ran out of room tells no fault.
-#[derive(Clone, Copy)]
+// How a reading ended: at the end of the file, at a fault, or at an event for which there was no room.
+#[derive(Clone, Copy, Debug, PartialEq, Eq)]
+pub enum Ending {
+    End,
+    Fault(Fault),
+    NoRoom,
+}
+
+// So many events were read before it ended.
+#[derive(Clone, Copy, Debug, PartialEq, Eq)]
 pub struct Reading {
     pub count: usize,
-    pub fault: Option<Fault>,
-    pub full: bool,
+    pub ending: Ending,
 }
 
 // The most events of a file: an opening of 7 bytes and 5,040 records of 13.
 pub const MOST_EVENTS: usize = 5041;
 
-// Reads the records up to the first fault or the end into the front of the room.
+// Reads the records up to the first fault or the end into the front of the room. The caller lends the room, since the
+// reader takes no memory of its own. It counts as it goes: a `for` over the room would say twice, in it and after it,
+// what the end and a fault are.
 pub fn read_all(bytes: &[u8], room: &mut [Event]) -> Reading
     ensures { ReadInto bytes.now room.old room.new result }
 {
@@ -26,30 +33,27 @@ pub fn read_all(bytes: &[u8], room: &mut [Event]) -> Reading
     let mut count = 0;
     loop {
         match reader.next() {
-            Step::End => {
-                return Reading {
-                    count,
-                    fault: None,
-                    full: false,
-                };
-            }
-            Step::Fault(fault) => {
-                return Reading {
-                    count,
-                    fault: Some(fault),
-                    full: false,
-                };
-            }
-            Step::Record(event) => {
+            Ok(Some(event)) => {
                 if count == room.len() {
                     return Reading {
                         count,
-                        fault: None,
-                        full: true,
+                        ending: Ending::NoRoom,
                     };
                 }
                 room[count] = event;
                 count += 1;
+            }
+            Ok(None) => {
+                return Reading {
+                    count,
+                    ending: Ending::End,
+                };
+            }
+            Err(fault) => {
+                return Reading {
+                    count,
+                    ending: Ending::Fault(fault),
+                };
             }
         }
     }

@@ -1,17 +1,17 @@
 -- What the tables hold when they are settled is what the rules make of the stand that they held.
-use Rattle.std.proofs.Common.{◌≡◌, ℕ, suc, ◌+◌, ◌-◌, ◌*◌, ◌≤◌, Bool, true, false, List, [], ◌∷◌, ◌++◌, map, length, get_or, take, drop, set, fold, sum_by, sym, refl, ap, ◌∙◌, ap₂, append-nil, arith, take_all}
+use Rattle.std.proofs.Common.{◌≡◌, ℕ, suc, ◌+◌, ◌-◌, ◌*◌, ◌≤◌, Bool, true, false, List, [], ◌∷◌, ◌++◌, map, length, get_or, take, drop, set, fold, sum_by, sym, refl, ap, ◌∙◌, subst, ap₂, append-nil, arith, take_all}
 use lib.ListN.{length-map}
 use borrow.Rule.Slice.PartMut.{put_mid}
-use Rattle.std.specs.List.{AllByRecursion}
+use Rattle.std.specs.List.{All, list_all}
+use Rattle.std.proofs.lemmas.List.Elements.{All-nil, All-map}
 use Rattle.std.proofs.lemmas.List.{drop_all}
 use Rattle.models.specs.Meaning.{Meaning}
 use Rattle.tables.specs.declared.row.AccountRow.{AccountRow}
 use Rattle.tables.specs.declared.row.TradeRow.{TradeRow}
 use Rattle.tables.specs.Books.{Book, book, books_of, no_row, places_at, rows_in, places_in}
 use Rattle.tables.specs.Limits.{holdings_keep, figures_keep, places_keep, constituent_keeps, tables_keep}
-use Rattle.tables.specs.Lists.{all_by}
-use Rattle.tables.proofs.Alls.{all_by_map, all_from}
-use Rattle.tables.proofs.Books.{kept, keeps_from, places_back}
+use Rattle.tables.proofs.Alls.{list_all_map, all_from}
+use Rattle.tables.proofs.Books.{kept, keeps_from, rows_back, places_back}
 use Rattle.tables.proofs.Facts.{booked, booked_from, figured}
 use Rattle.market.specs.declared.state.MarketState.{MarketState}
 use Rattle.rules.specs.Rows.{with_second}
@@ -49,15 +49,13 @@ put_rest h cs ys = ap (λ (l : List AccountRow). h ∷ l) (ap (λ (l : List Acco
 short_fits : (b : Book) → constituent_keeps b ≡ true → b.row.shortfall ≤ 3000000000000000
 short_fits b h = (figured 3000000000000000 b.row (booked 3000000000000000 b h).figures).shortfall
 
-rows_all : (P : AccountRow → Type 0) (cs : List AccountRow) (us : List TradeRow) → AllByRecursion (λ b. P b.row) (books_of cs us) → AllByRecursion P cs
-rows_all P [] us h = tt
-rows_all P (c ∷ cs) us h = (h.0, rows_all P cs (drop 64 us) h.1)
-
-pub shortfalls_fit : (n : ℕ) (rs : List AccountRow) (ts : List TradeRow) → tables_keep n rs ts ≡ true → AllByRecursion (λ r. r.shortfall ≤ 3000000000000000) (drop 1 rs)
-shortfalls_fit n [] ts h = tt
+pub shortfalls_fit : (n : ℕ) (rs : List AccountRow) (ts : List TradeRow) → tables_keep n rs ts ≡ true → All (λ r. r.shortfall ≤ 3000000000000000) (drop 1 rs)
+shortfalls_fit n [] ts h = All-nil (λ (r : AccountRow). r.shortfall ≤ 3000000000000000)
 shortfalls_fit n (r ∷ rs) ts h =
-    rows_all (λ q. q.shortfall ≤ 3000000000000000) rs (drop 64 ts)
-    (all_from constituent_keeps (λ b. b.row.shortfall ≤ 3000000000000000) short_fits (books_of rs (drop 64 ts)) (kept n (r ∷ rs) ts h).constituents)
+    let fits : AccountRow → Type 0 = λ q. q.shortfall ≤ 3000000000000000 in
+    let bs = books_of rs (drop 64 ts) in
+    subst (All fits) (rows_back rs (drop 64 ts))
+    (All-map fits (λ (b : Book). b.row) bs (all_from constituent_keeps (λ b. b.row.shortfall ≤ 3000000000000000) short_fits bs (kept n (r ∷ rs) ts h).constituents))
 
 counted : (m : Meaning) (k : MarketState) (cover : ℕ) (r : AccountRow) (ts : List TradeRow) (own : AccountRow) → own ≡ with_second (settled_row m k cover r (take r.trades (take 64 ts))) false → own.trades ≡ r.trades
 unfolding settled_row
@@ -90,8 +88,8 @@ finished m k n cover (r ∷ cs) ys ts own some h ec eo held fits ey =
             figures = fits;
             places = ap (λ (x : ℕ). places_keep x (take 64 ts)) count ∙ (booked 96000000000000000 (book r (take 64 ts)) s.house).places;
           }))
-          (ap (all_by constituent_keeps) (books_reflagged own.own cs (drop 64 ts))
-          ∙ all_by_map constituent_keeps constituent_keeps (reflagged own.own) (λ b p. p) (books_of cs (drop 64 ts)) s.constituents),
+          (ap (list_all constituent_keeps) (books_reflagged own.own cs (drop 64 ts))
+          ∙ list_all_map constituent_keeps constituent_keeps (reflagged own.own) (λ b p. p) (books_of cs (drop 64 ts)) s.constituents),
     )
 
 -- the cover, out of the records

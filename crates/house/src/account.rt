@@ -7,7 +7,7 @@ ghost use Rattle.rules.specs.Stands.{standing, shortfalls, after_account, rows_o
 ghost use Rattle.accounts.specs.Changing.{book_in};
 ghost use Rattle.rules.specs.Outcomes.{answer_of, blank_answer, restriction_of, account_outcome, account_reply, OthersLeft};
 
-use super::settle::{constituents, finish_settling, sum_shortfalls};
+use super::settle::{finish_settling, stored_cover};
 use accounts::book::HeldBook;
 use accounts::cover::Cover;
 use accounts::preview::preview;
@@ -18,12 +18,11 @@ use rules::house::House;
 use tables::checking::tables_keep;
 use tables::row::{AccountRow, NO_TRADE, TradeRow};
 
-// 0 none, 1 own flag, 2 second flag, 3 both.
+// 0 none, 1 own flag, 2 second flag, 3 both: a number, since the answer is a record of the C interface.
 fn restriction(row: &AccountRow) -> u8
     ensures { result ≡ restriction_of row.now }
 {
-    let own = if row.own { 1 } else { 0 };
-    if row.second { own + 2 } else { own }
+    u8::from(row.own) + 2 * u8::from(row.second)
 }
 
 // An answer with the figures of a record.
@@ -52,22 +51,20 @@ fn refused(refusal: Refusal) -> Answer
     }
 }
 
-// The places of one account.
-fn places_of(trades: &[TradeRow], account: usize) -> &[TradeRow]
-    requires { 64 * account + 64 ≤ length trades.now }
-    ensures { result.now ≡ places_at trades.now account }
-{
-    let start = 64 * account;
-    &trades[start..start + 64]
-}
-
 // An account's record and places, read out of the tables.
-fn read_book(records: &[AccountRow], trades: &[TradeRow], account: usize) -> HeldBook
-    requires { (account < length records.now) × ((64 * account + 64 ≤ length trades.now) × ((holdings_keep (slice_index_or records.now account no_row) ≡ true) × (places_keep (slice_index_or records.now account no_row).trades (places_at trades.now account) ≡ true))) }
+pub(crate) fn read_book(
+    house: &House,
+    records: &[AccountRow],
+    trades: &[TradeRow],
+    account: usize,
+) -> HeldBook
+    requires tables { tables_keep house.now.accounts records.now trades.now ≡ true }
+    requires there { account < house.now.accounts }
     ensures { book_in result ≡ book (slice_index_or records.now account no_row) (places_at trades.now account) }
 {
+    let start = 64 * account;
     let mut places = [NO_TRADE; 64];
-    places.copy_from_slice(places_of(trades, account));
+    places.copy_from_slice(&trades[start..start + 64]);
     HeldBook::new(records[account], places)
 }
 
@@ -91,7 +88,7 @@ fn cover_for(house: &House, records: &[AccountRow], trades: &[TradeRow], account
     ensures bound { result.paise ≤ 93000000000000000 }
 {
     if account == 0 {
-        Cover::of(sum_shortfalls(constituents(records)))
+        stored_cover(house, records, trades)
     } else {
         Cover::none()
     }
@@ -115,7 +112,7 @@ fn act<M: MarginModel>(
     ensures rests { result.number ≡ 0 → AtRest (M.meaning model.now) house.now.market.state records.new trades.new }
     ensures stands { standing house.now.market.state records.new trades.new ≡ after_account (M.meaning model.now) (standing house.now.market.state records.old trades.old) account call }
 {
-    let held = read_book(records, trades, account);
+    let held = read_book(house, records, trades, account);
     let cover = cover_for(house, records, trades, account);
     match preview(model, &house.market, account == 0, cover, held, call) {
         Err(refusal) => answered(refusal.number(), &records[account]),

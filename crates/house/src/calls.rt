@@ -1,4 +1,5 @@
-// The account calls by name. Each asks its questions in order and answers the first no; a refused call changes nothing.
+// The account calls by name, since callers know them so. Each asks its questions in order and answers the first no; a refused
+// call changes nothing.
 ghost use Rattle.std.specs.Prelude.{◌≡◌};
 ghost use Rattle.rules.specs.Outcomes.{Answered};
 

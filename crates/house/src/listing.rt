@@ -8,7 +8,8 @@ use rules::call::{Answer, NamedCall};
 use rules::house::House;
 use tables::row::{AccountRow, TradeRow};
 
-// Answers the calls in turn, as many as there is room for. Gives how many they are.
+// Answers the calls in turn, as many as there is room for. Gives how many they are: the room is the caller's, since no heap is
+// used here. By index, since of a `zip` with an `iter_mut` a proof does not learn what was written.
 pub fn answer_all<M: MarginModel>(
     house: &House,
     model: &M,
@@ -24,8 +25,7 @@ pub fn answer_all<M: MarginModel>(
     ensures trades { trades.new ≡ (lent_run (M.meaning model.now) house.now.market.state house.now.accounts (records.old, trades.old) (take result calls.now)).1 }
 {
     let count = calls.len().min(answers.len());
-    for i in 0..count {
-        let next = calls[i];
+    for (i, next) in calls[..count].iter().enumerate() {
         let said = answer_account(house, model, records, trades, next.account, next.call);
         answers[i] = said;
     }

@@ -7,7 +7,8 @@ ghost use Rattle.rules.specs.MarketCalls.{running, closed_up, matured_out};
 use rules::house::House;
 use tables::row::{AccountRow, NO_TRADE, TradeRow};
 
-// Moves the trades that go on to the front, in order. Gives how many they are.
+// Moves the trades that go on to the front, in order. Gives how many they are. One index reads ahead of the one that writes, in
+// one slice: `retain` wants a `Vec`, and no heap is used here.
 fn keep_running(trades: &mut [TradeRow], month: u16) -> usize
     ensures front { take result trades.new ≡ filter (running month) trades.old }
     ensures bound { result ≤ length trades.old }
@@ -44,21 +45,15 @@ fn mature_places(places: &mut [TradeRow], count: u8, month: u16) -> u8
 }
 
 // One account, its record and its places.
-fn mature_account(records: &mut [AccountRow], trades: &mut [TradeRow], account: usize, month: u16)
-    requires { (account < length records.old) × ((64 * account + 64 ≤ length trades.old) × ((slice_index_or records.old account no_row).trades ≤ 64)) }
-    ensures rows { records.new ≡ slice_set records.old account (matured_out month (book (slice_index_or records.old account no_row) (places_at trades.old account))).row }
-    ensures trades { trades.new ≡ put_places trades.old account (matured_out month (book (slice_index_or records.old account no_row) (places_at trades.old account))).places }
+fn mature_account(row: &mut AccountRow, places: &mut [TradeRow], month: u16)
+    requires { (length places.old ≡ 64) × (row.old.trades ≤ 64) }
+    ensures row { row.new ≡ (matured_out month (book row.old places.old)).row }
+    ensures places { places.new ≡ (matured_out month (book row.old places.old)).places }
 {
-    let start = 64 * account;
-    let left = mature_places(
-        &mut trades[start..start + 64],
-        records[account].trades,
-        month,
-    );
-    records[account].trades = left;
+    row.trades = mature_places(places, row.trades, month);
 }
 
-// Every account.
+// Every account. Places by index, since of a `zip` of two lent tables a proof does not learn what was written.
 pub(crate) fn mature_all(
     house: &House,
     records: &mut [AccountRow],
@@ -69,7 +64,8 @@ pub(crate) fn mature_all(
     ensures books { books_of records.new trades.new ≡ map (matured_out month) (books_of records.old trades.old) }
     ensures keeps { tables_keep house.now.accounts records.new trades.new ≡ true }
 {
-    for i in 0..records.len() {
-        mature_account(records, trades, i, month);
+    for (i, row) in records.iter_mut().enumerate() {
+        let start = 64 * i;
+        mature_account(row, &mut trades[start..start + 64], month);
     }
 }

@@ -1,26 +1,26 @@
 // Settling over the tables: one account; then cover, house and second flags.
 ghost use Rattle.std.specs.Prelude.{◌≡◌, ◌+◌, ◌*◌, ◌≤◌, true, false, ◌∷◌, map, length, take, drop, sum_by, slice_index_or};
 ghost use Rattle.tables.specs.Books.{books_of, places_at, no_book};
-ghost use Rattle.std.specs.List.{AllByRecursion};
+ghost use Rattle.std.specs.List.{All};
 ghost use Rattle.tables.specs.Limits.{holdings_keep, places_keep, figures_keep, tables_keep};
 ghost use Rattle.rules.specs.Rows.{with_second};
-ghost use Rattle.rules.specs.Settling.{settled_row, settled, row_reflagged};
+ghost use Rattle.rules.specs.Settling.{settled, house_settled, row_reflagged};
+ghost use Rattle.accounts.specs.Changing.{book_in};
 ghost use Rattle.rules.specs.Stands.{standing, finish, rows_of, AtRest};
 
+use super::account::read_book;
+use accounts::book::HeldBook;
 use accounts::cover::Cover;
-use accounts::settle::settle;
 use margins::flags::second_flag;
 use market::market::Market;
 use models::model::MarginModel;
 use rules::house::House;
-use tables::account::Account;
 use tables::row::{AccountRow, TradeRow};
-use tables::standing::StandingTrades;
 
 // The sum of shortfalls.
-pub(crate) fn sum_shortfalls(rows: &[AccountRow]) -> u64
+fn sum_shortfalls(rows: &[AccountRow]) -> u64
     requires few { length rows.now ≤ 31 }
-    requires each { AllByRecursion (λ r. r.shortfall ≤ 3000000000000000) rows.now }
+    requires each { All (λ r. r.shortfall ≤ 3000000000000000) rows.now }
     ensures value { result ≡ sum_by (λ q. q.shortfall) rows.now }
     ensures bound { result ≤ 93000000000000000 }
 {
@@ -42,50 +42,25 @@ fn second_after(restricted: bool, row: &AccountRow) -> bool
 fn second_flags(restricted: bool, rows: &mut [AccountRow])
     ensures { rows.new ≡ map (row_reflagged restricted) rows.old }
 {
-    for i in 0..rows.len() {
-        let flag = second_after(restricted, &rows[i]);
-        rows[i].second = flag;
+    for row in rows.iter_mut() {
+        row.second = second_after(restricted, row);
     }
 }
 
 // The records but the house's own.
-pub(crate) fn constituents(records: &[AccountRow]) -> &[AccountRow]
+fn constituents(records: &[AccountRow]) -> &[AccountRow]
     requires { 1 ≤ length records.now }
     ensures { result.now ≡ drop 1 records.now }
 {
     &records[1..]
 }
 
-// The trades that stand in an account's places.
-pub(crate) fn standing_rows(trades: &[TradeRow], account: usize, count: u8) -> &[TradeRow]
-    requires { (64 * account + 64 ≤ length trades.now) × (count ≤ 64) }
-    ensures { result.now ≡ take count (places_at trades.now account) }
+// The stored cover: the sum of the constituents' shortfalls.
+pub(crate) fn stored_cover(house: &House, records: &[AccountRow], trades: &[TradeRow]) -> Cover
+    requires { tables_keep house.now.accounts records.now trades.now ≡ true }
+    ensures { result.paise ≡ sum_by (λ q. q.shortfall) (drop 1 records.now) }
 {
-    let start = 64 * account;
-    &trades[start..start + count as usize]
-}
-
-// An account's record with figures, levels and own flag anew, at a cover: none for a constituent.
-pub(crate) fn settle_account<M: MarginModel>(
-    model: &M,
-    market: &Market,
-    cover: Cover,
-    row: AccountRow,
-    trades: &[TradeRow],
-    account: usize,
-) -> AccountRow
-    requires long { 64 * account + 64 ≤ length trades.now }
-    requires row { holdings_keep row ≡ true }
-    requires places { places_keep row.trades (places_at trades.now account) ≡ true }
-    ensures value { result ≡ settled_row (M.meaning model.now) market.now.state cover.paise row (take row.trades (places_at trades.now account)) }
-    ensures keeps { holdings_keep result ≡ true }
-    ensures obligation { result.obligation ≤ 3000000000000000 + cover.paise }
-    ensures available { result.available ≤ 3000000000000000 }
-    ensures shortfall { result.shortfall ≤ 3000000000000000 + cover.paise }
-{
-    let held = Account::new(row);
-    let standing = StandingTrades::new(standing_rows(trades, account, row.trades));
-    settle(model, market, cover, &held, standing)
+    Cover::of(sum_shortfalls(constituents(records)))
 }
 
 // The house's record, settled at the cover. It has no second flag.
@@ -93,19 +68,16 @@ fn settle_own<M: MarginModel>(
     model: &M,
     market: &Market,
     cover: Cover,
-    row: AccountRow,
-    trades: &[TradeRow],
+    held: HeldBook,
 ) -> AccountRow
-    requires long { 64 ≤ length trades.now }
-    requires row { holdings_keep row ≡ true }
-    requires places { places_keep row.trades (places_at trades.now 0) ≡ true }
-    ensures value { result ≡ with_second (settled_row (M.meaning model.now) market.now.state cover.paise row (take row.trades (places_at trades.now 0))) false }
+    ensures value { result ≡ (house_settled (M.meaning model.now) market.now.state cover.paise (book_in held)).row }
     ensures keeps { holdings_keep result ≡ true }
     ensures figures { figures_keep 96000000000000000 result ≡ true }
 {
-    let mut own = settle_account(model, market, cover, row, trades, 0);
-    own.second = false;
-    own
+    AccountRow {
+        second: false,
+        ..held.settled(model, market, cover).row()
+    }
 }
 
 // The cover and the house, and then all second flags.
@@ -120,9 +92,9 @@ pub(crate) fn finish_settling<M: MarginModel>(
     ensures keeps { tables_keep house.now.accounts records.new trades.now ≡ true }
     ensures rests { AtRest (M.meaning model.now) house.now.market.state records.new trades.now }
 {
-    let cover = Cover::of(sum_shortfalls(constituents(records)));
-    let row = records[0];
-    let own = settle_own(model, &house.market, cover, row, trades);
+    let cover = stored_cover(house, records, trades);
+    let held = read_book(house, records, trades, 0);
+    let own = settle_own(model, &house.market, cover, held);
     records[0] = own;
     second_flags(own.own, &mut records[1..]);
 }
@@ -138,8 +110,9 @@ pub(crate) fn settle_constituents<M: MarginModel>(
     ensures books { books_of records.new trades.now ≡ (slice_index_or (books_of records.old trades.now) 0 no_book ∷ map (settled (M.meaning model.now) house.now.market.state 0) (drop 1 (books_of records.old trades.now))) }
     ensures keeps { tables_keep house.now.accounts records.new trades.now ≡ true }
 {
+    // By the account's number: `read_book` takes an account's record and places out of both tables.
     for i in 1..records.len() {
-        let row = records[i];
-        records[i] = settle_account(model, &house.market, Cover::none(), row, trades, i);
+        let held = read_book(house, records, trades, i);
+        records[i] = held.settled(model, &house.market, Cover::none()).row();
     }
 }

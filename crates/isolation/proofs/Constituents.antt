@@ -1,9 +1,9 @@
 -- A constituent's view goes by what the constituent is told.
-use Rattle.std.proofs.Common.{◌≡◌, ℕ, zero, suc, ◌<◌, ◌≤◌, Bool, true, false, ◌⊎◌, map, length, get_or, set, Ok, Err, Result, sym, refl, ap, ◌∙◌, subst, inl, inr, true≢false, length-set, get_or-set_other, get_or-set_same}
+use Rattle.std.proofs.Common.{◌≡◌, ℕ, suc, ◌<◌, Bool, true, false, map, length, slice_index_or, slice_set, Ok, Err, Result, sym, refl, ap, ◌∙◌, subst, true≢false, length-set, get_or-set_other, get_or-set_same}
 use mathlib.Core.Bool.{beq}
 use lib.ListN.{length-map}
 use Rattle.std.proofs.lemmas.List.{get_or-map}
-use Rattle.std.proofs.lemmas.Bool.{eqb-true, eqb-false, cases_lt}
+use Rattle.std.proofs.lemmas.Bool.{eqb-true, eqb-false}
 use Rattle.models.specs.Meaning.{Meaning}
 use Rattle.refusals.specs.declared.refusal.Refusal.{Refusal}
 use Rattle.refusals.specs.declared.refusal.Refusal.TheVariants.{Tables}
@@ -24,7 +24,7 @@ use Rattle.rules.specs.Outcomes.{answer_of, blank_answer, verdict_number, accoun
 use Rattle.rules.specs.MarketCalls.{aged, market_answer}
 use Rattle.isolation.specs.Runs.{after, reply}
 use Rattle.isolation.specs.Views.{View, constituent_view, restriction_of_house, concerns}
-use Rattle.isolation.proofs.Steps.{house_after, constituent_after, market_after, house_verdict, constituent_verdict, house_steps, constituent_steps, constituent_replies, absent_steps, Rests, rests_after, length_after}
+use Rattle.isolation.proofs.Steps.{house_after, constituent_after, market_after, house_verdict, constituent_verdict, constituent_steps, constituent_replies, account_cases, Rests, rests_after, length_after}
 use Rattle.isolation.proofs.Unwinding.{Unwound}
 
 abbrev look : MarketState → Bool → Book → View Bool
@@ -60,7 +60,7 @@ module _ (m : Meaning) where
   says v w (RightTables (Market c)) = MarketReply (market_answer (result_number (first_no (market_questions m.sets v.market c))) w.market)
 
   -- what constituent j sees when a stand is settled
-  finished : (j : ℕ) (s : Stand) (b : Book) → j < length s.constituents → get_or s.constituents j no_book ≡ b
+  finished : (j : ℕ) (s : Stand) (b : Book) → j < length s.constituents → slice_index_or s.constituents j no_book ≡ b
       → constituent_view j (finish m s) ≡ look s.market (restriction_of_house (finish m s)) (reflagged (restriction_of_house (finish m s)) b)
   finished j s b l e =
       let r = restriction_of_house (finish m s) in
@@ -71,15 +71,15 @@ module _ (m : Meaning) where
   flag_rests j s k l =
       let r = restriction_of_house (finish m s) in
       let same : r ≡ restriction_of_house s = ap restriction_of_house k in
-      ap (λ (x : Bool). look s.market (restriction_of_house s) (reflagged x (get_or s.constituents j no_book))) (sym same)
-      ∙ ap (look s.market (restriction_of_house s)) (sym (get_or-map (reflagged r) s.constituents j no_book no_book l) ∙ ap (λ (t : Stand). get_or t.constituents j no_book) k)
+      ap (λ (x : Bool). look s.market (restriction_of_house s) (reflagged x (slice_index_or s.constituents j no_book))) (sym same)
+      ∙ ap (look s.market (restriction_of_house s)) (sym (get_or-map (reflagged r) s.constituents j no_book no_book l) ∙ ap (λ (t : Stand). slice_index_or t.constituents j no_book) k)
 
   module _ (j : ℕ) where
     own_goes : (s : Stand) (v : Verdict Book) → j < length s.constituents
         → constituent_view j (constituent_after m s j v) ≡ by_order (constituent_view j s) (restriction_of_house (constituent_after m s j v)) v
     own_goes s (refused e) l = refl
     own_goes s (granted b) l =
-        finished j (record { market = s.market; house = s.house; constituents = set s.constituents j b }) b
+        finished j (record { market = s.market; house = s.house; constituents = slice_set s.constituents j b }) b
         (subst (λ (n : ℕ). j < n) (sym (length-set s.constituents j b)) l) (get_or-set_same s.constituents j b no_book l)
 
     market_goes : (s : Stand) (c : MarketCall) (a : Result (Unit {0}) Refusal) → j < length s.constituents
@@ -88,20 +88,20 @@ module _ (m : Meaning) where
     market_goes s c (Ok x) l =
         let k = market_changed c s.market in
         let f : Book → Book = λ b. settled m k 0 (aged c b) in
-        finished j (record { market = k; house = aged c s.house; constituents = map f s.constituents }) (f (get_or s.constituents j no_book))
+        finished j (record { market = k; house = aged c s.house; constituents = map f s.constituents }) (f (slice_index_or s.constituents j no_book))
         (subst (λ (n : ℕ). j < n) (sym (length-map s.constituents f)) l) (get_or-map f s.constituents j no_book no_book l)
 
     -- a call on the house, or on another constituent
     house_goes : (s : Stand) (v : Verdict Book) → Rests m s → j < length s.constituents
         → constituent_view j (house_after m s v) ≡ by_turn (constituent_view j s) (restriction_of_house (house_after m s v))
     house_goes s (refused e) k l = sym (flag_rests j s k l)
-    house_goes s (granted b) k l = finished j (record { market = s.market; house = b; constituents = s.constituents }) (get_or s.constituents j no_book) l refl
+    house_goes s (granted b) k l = finished j (record { market = s.market; house = b; constituents = s.constituents }) (slice_index_or s.constituents j no_book) l refl
 
     other_goes : (s : Stand) (i : ℕ) (v : Verdict Book) → Rests m s → j < length s.constituents → (j ≡ i → ⊥)
         → constituent_view j (constituent_after m s i v) ≡ by_turn (constituent_view j s) (restriction_of_house (constituent_after m s i v))
     other_goes s i (refused e) k l ne = sym (flag_rests j s k l)
     other_goes s i (granted b) k l ne =
-        finished j (record { market = s.market; house = s.house; constituents = set s.constituents i b }) (get_or s.constituents j no_book)
+        finished j (record { market = s.market; house = s.house; constituents = slice_set s.constituents i b }) (slice_index_or s.constituents j no_book)
         (subst (λ (n : ℕ). j < n) (sym (length-set s.constituents i b)) l) (get_or-set_other s.constituents i j b no_book ne)
 
     abbrev Kept : Stand → Type 0
@@ -114,7 +114,7 @@ module _ (m : Meaning) where
     on_answer s (RightTables (Account c)) k p =
         let same : c.account ≡ suc j = eqb-true c.account (suc j) p in
         ap AccountReply (ap (λ (i : ℕ). account_reply m s i c.call) same ∙ constituent_replies m s c.call j k.1
-        ∙ ap (λ (i : ℕ). answer_of (verdict_number (constituent_verdict m s j c.call)) (get_or (after_account m s i c.call).constituents j no_book).row) (sym same))
+        ∙ ap (λ (i : ℕ). answer_of (verdict_number (constituent_verdict m s j c.call)) (slice_index_or (after_account m s i c.call).constituents j no_book).row) (sym same))
 
     pub on_call : (s : Stand) (e : Event) → Kept s → concerns (suc j) e ≡ true → constituent_view j (after m s e) ≡ by_call (constituent_view j s) e (restriction_of_house (after m s e))
     on_call s (WrongTables c) k p = refl
@@ -126,16 +126,9 @@ module _ (m : Meaning) where
         subst (λ (t : Stand). constituent_view j t ≡ by_order (constituent_view j s) (restriction_of_house t) (constituent_verdict m s j c.call)) (sym is) (own_goes s (constituent_verdict m s j c.call) k.1)
 
     account_turns : (s : Stand) (i : ℕ) (c : AccountCall) → Kept s → (i ≡ suc j → ⊥) → constituent_view j (after_account m s i c) ≡ by_turn (constituent_view j s) (restriction_of_house (after_account m s i c))
-    account_turns s zero c k ne =
-        subst (λ (t : Stand). constituent_view j t ≡ by_turn (constituent_view j s) (restriction_of_house t)) (sym (house_steps m s c)) (house_goes s (house_verdict m s c) k.0 k.1)
-    account_turns s (suc i) c k ne = go (cases_lt i (length s.constituents))
-      where
-        go : (i < length s.constituents) ⊎ (length s.constituents ≤ i) → constituent_view j (after_account m s (suc i) c) ≡ by_turn (constituent_view j s) (restriction_of_house (after_account m s (suc i) c))
-        go (inl l) =
-            subst (λ (t : Stand). constituent_view j t ≡ by_turn (constituent_view j s) (restriction_of_house t)) (sym (constituent_steps m s c i l))
-            (other_goes s i (constituent_verdict m s i c) k.0 k.1 (λ e. ne (ap suc (sym e))))
-        go (inr l) =
-            subst (λ (t : Stand). constituent_view j t ≡ by_turn (constituent_view j s) (restriction_of_house t)) (sym (absent_steps m s c i l)) (sym (flag_rests j s k.0 k.1))
+    account_turns s i c k ne =
+        account_cases m s i c (λ (t : Stand). constituent_view j t ≡ by_turn (constituent_view j s) (restriction_of_house t)) (sym (flag_rests j s k.0 k.1))
+        (λ e. house_goes s (house_verdict m s c) k.0 k.1) (λ o e l. other_goes s o (constituent_verdict m s o c) k.0 k.1 (λ z. ne (e ∙ ap suc (sym z))))
 
     pub on_other : (s : Stand) (e : Event) → Kept s → concerns (suc j) e ≡ false → constituent_view j (after m s e) ≡ by_turn (constituent_view j s) (restriction_of_house (after m s e))
     on_other s (WrongTables c) k p = sym (flag_rests j s k.0 k.1)

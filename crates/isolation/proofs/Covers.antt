@@ -1,7 +1,7 @@
 -- The cover is the sum of what the constituents lack, and the house's obligation carries it.
-use Rattle.std.proofs.Common.{◌≡◌, ℕ, zero, suc, ◌+◌, ◌<◌, ◌≤◌, Bool, false, ◌⊎◌, List, [], ◌∷◌, map, length, get_or, set, Ok, Err, fold, Result, sym, refl, ap, ◌∙◌, subst, inl, inr}
-use Rattle.std.specs.List.{AllByRecursion}
-use Rattle.std.proofs.lemmas.Bool.{cases_lt}
+use Rattle.std.proofs.Common.{◌≡◌, ℕ, ◌+◌, false, List, [], ◌∷◌, map, slice_index_or, slice_set, Ok, Err, fold, Result, sym, refl, ap, ◌∙◌, subst}
+use Rattle.std.specs.List.{All}
+use Rattle.std.proofs.lemmas.List.Elements.{All-head, All-tail, All-set, All-map, All-from_get_or}
 use Rattle.models.specs.Meaning.{Meaning}
 use Rattle.refusals.specs.declared.refusal.Refusal.{Refusal}
 use Rattle.refusals.specs.Refusals.{first_no}
@@ -19,7 +19,7 @@ use Rattle.rules.specs.Stands.{Stand, Verdict, refused, granted, finish, after_a
 use Rattle.rules.specs.MarketCalls.{aged}
 use Rattle.isolation.specs.Runs.{after, run}
 use Rattle.isolation.specs.Isolation.{lacking, Covered}
-use Rattle.isolation.proofs.Steps.{house_after, constituent_after, market_after, house_verdict, constituent_verdict, house_steps, constituent_steps, absent_steps, Rests}
+use Rattle.isolation.proofs.Steps.{house_after, constituent_after, market_after, house_verdict, constituent_verdict, account_cases, Rests}
 use Rattle.isolation.proofs.Ledgers.{granted_asked}
 
 -- the stored shortfall is what the account lacks
@@ -27,27 +27,17 @@ abbrev IsShort : Book → Type 0
 IsShort b = b.row.shortfall ≡ lacking b
 
 abbrev pub Short : Stand → Type 0
-Short s = AllByRecursion IsShort s.constituents
+Short s = All IsShort s.constituents
 
-flagged_short : (r : Bool) (bs : List Book) → AllByRecursion IsShort bs → AllByRecursion IsShort (map (reflagged r) bs)
-flagged_short r [] h = tt
-flagged_short r (b ∷ bs) h = (h.0, flagged_short r bs h.1)
-
-each_short : (f : Book → Book) → ((b : Book) → IsShort (f b)) → (bs : List Book) → AllByRecursion IsShort (map f bs)
-each_short f g [] = tt
-each_short f g (b ∷ bs) = (g b, each_short f g bs)
-
-put_short : (bs : List Book) (i : ℕ) (x : Book) → IsShort x → AllByRecursion IsShort bs → AllByRecursion IsShort (set bs i x)
-put_short [] i x p h = tt
-put_short (b ∷ bs) zero x p h = (p, h.1)
-put_short (b ∷ bs) (suc i) x p h = (h.0, put_short bs i x p h.1)
+each_short : (f : Book → Book) → ((b : Book) → IsShort (f b)) → (bs : List Book) → All IsShort (map f bs)
+each_short f g bs = All-map IsShort f bs (All-from_get_or (λ (b : Book). IsShort (f b)) bs no_book (λ i l. g (slice_index_or bs i no_book)))
 
 settled_short : (m : Meaning) (k : MarketState) (x : ℕ) (b : Book) → IsShort (settled m k x b)
 unfolding settled_row
 settled_short m k x b = refl
 
 finish_short : (m : Meaning) (s : Stand) → Short s → Short (finish m s)
-finish_short m s h = flagged_short (finish m s).house.row.own s.constituents h
+finish_short m s h = All-map IsShort (reflagged (finish m s).house.row.own) s.constituents h
 
 house_short : (m : Meaning) (s : Stand) (v : Verdict Book) → Short s → Short (house_after m s v)
 house_short m s (refused e) h = h
@@ -56,7 +46,7 @@ house_short m s (granted b) h = finish_short m (record { market = s.market; hous
 constituent_short : (m : Meaning) (s : Stand) (j : ℕ) (v : Verdict Book) → ((y : Book) → v ≡ granted y → IsShort y) → Short s → Short (constituent_after m s j v)
 constituent_short m s j (refused e) g h = h
 constituent_short m s j (granted b) g h =
-    finish_short m (record { market = s.market; house = s.house; constituents = set s.constituents j b }) (put_short s.constituents j b (g b refl) h)
+    finish_short m (record { market = s.market; house = s.house; constituents = slice_set s.constituents j b }) (All-set IsShort s.constituents j b (g b refl) h)
 
 market_short : (m : Meaning) (s : Stand) (c : MarketCall) (r : Result (Unit {0}) Refusal) → Short s → Short (market_after m s c r)
 market_short m s c (Err e) h = h
@@ -66,14 +56,9 @@ market_short m s c (Ok x) h =
     finish_short m (record { market = k; house = aged c s.house; constituents = map f s.constituents }) (each_short f (λ b. settled_short m k 0 (aged c b)) s.constituents)
 
 account_short : (m : Meaning) (s : Stand) (i : ℕ) (c : AccountCall) → Short s → Short (after_account m s i c)
-account_short m s zero c h = subst Short (sym (house_steps m s c)) (house_short m s (house_verdict m s c) h)
-account_short m s (suc j) c h = go (cases_lt j (length s.constituents))
-  where
-    go : (j < length s.constituents) ⊎ (length s.constituents ≤ j) → Short (after_account m s (suc j) c)
-    go (inl l) =
-        subst Short (sym (constituent_steps m s c j l))
-        (constituent_short m s j (constituent_verdict m s j c) (λ y v. subst IsShort (sym (granted_asked m s.market false 0 (get_or s.constituents j no_book) y c v).1) (settled_short m s.market 0 (changed c (get_or s.constituents j no_book)))) h)
-    go (inr l) = subst Short (sym (absent_steps m s c j l)) h
+account_short m s i c h =
+    account_cases m s i c Short h (λ e. house_short m s (house_verdict m s c) h)
+    (λ j e l. constituent_short m s j (constituent_verdict m s j c) (λ y v. subst IsShort (sym (granted_asked m s.market false 0 (slice_index_or s.constituents j no_book) y c v).1) (settled_short m s.market 0 (changed c (slice_index_or s.constituents j no_book)))) h)
 
 pub short_after : (m : Meaning) (s : Stand) (e : Event) → Short s → Short (after m s e)
 short_after m s (WrongTables c) h = h
@@ -84,10 +69,10 @@ pub short_run : (m : Meaning) (s : Stand) (es : List Event) → Short s → Shor
 short_run m s [] h = h
 short_run m s (e ∷ es) h = short_run m (after m s e) es (short_after m s e h)
 
-same_sum : (bs : List Book) (n : ℕ) → AllByRecursion IsShort bs → fold (λ (x : ℕ) (b : Book). x + b.row.shortfall) n bs ≡ fold (λ (x : ℕ) (b : Book). x + lacking b) n bs
+same_sum : (bs : List Book) (n : ℕ) → All IsShort bs → fold (λ (x : ℕ) (b : Book). x + b.row.shortfall) n bs ≡ fold (λ (x : ℕ) (b : Book). x + lacking b) n bs
 same_sum [] n h = refl
 same_sum (b ∷ bs) n h =
-    ap (λ (x : ℕ). fold (λ (y : ℕ) (c : Book). y + c.row.shortfall) (n + x) bs) h.0 ∙ same_sum bs (n + lacking b) h.1
+    ap (λ (x : ℕ). fold (λ (y : ℕ) (c : Book). y + c.row.shortfall) (n + x) bs) (All-head IsShort b bs h) ∙ same_sum bs (n + lacking b) (All-tail IsShort b bs h)
 
 pub covered_at : (m : Meaning) (s : Stand) → Rests m s → Short s → Covered m s
 unfolding settled_row

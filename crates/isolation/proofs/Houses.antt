@@ -1,6 +1,6 @@
 -- The house's view goes by what the house is told.
-use Rattle.std.proofs.Common.{◌≡◌, ℕ, zero, suc, ◌<◌, ◌≤◌, true, false, eqb, ◌⊎◌, map, length, set, Ok, Err, Result, sym, refl, ap, ◌∙◌, subst, inl, inr, true≢false}
-use Rattle.std.proofs.lemmas.Bool.{eqb-true, eqb-false, cases_lt}
+use Rattle.std.proofs.Common.{◌≡◌, ℕ, true, false, nat_eq, map, slice_set, Ok, Err, Result, sym, refl, ap, ◌∙◌, subst, true≢false}
+use Rattle.std.proofs.lemmas.Bool.{eqb-true, eqb-false}
 use Rattle.models.specs.Meaning.{Meaning}
 use Rattle.refusals.specs.declared.refusal.Refusal.{Refusal}
 use Rattle.refusals.specs.declared.refusal.Refusal.TheVariants.{Tables}
@@ -22,7 +22,7 @@ use Rattle.rules.specs.MarketCalls.{aged, market_answer}
 use Rattle.rules.proofs.Resting.{cover_reflagged}
 use Rattle.isolation.specs.Runs.{after, reply}
 use Rattle.isolation.specs.Views.{View, house_view, concerns}
-use Rattle.isolation.proofs.Steps.{house_after, constituent_after, market_after, house_verdict, constituent_verdict, house_steps, house_replies, constituent_steps, absent_steps, Rests, rests_after}
+use Rattle.isolation.proofs.Steps.{house_after, constituent_after, market_after, house_verdict, constituent_verdict, house_steps, house_replies, account_cases, Rests, rests_after}
 use Rattle.isolation.proofs.Unwinding.{Unwound}
 
 abbrev look : MarketState → ℕ → Book → View ℕ
@@ -71,7 +71,7 @@ module _ (m : Meaning) where
 
   other_goes : (s : Stand) (j : ℕ) (v : Verdict Book) → Rests m s → house_view (constituent_after m s j v) ≡ by_turn (house_view s) (cover_of (constituent_after m s j v))
   other_goes s j (refused e) k = sym (house_rests s k)
-  other_goes s j (granted b) k = finished (record { market = s.market; house = s.house; constituents = set s.constituents j b })
+  other_goes s j (granted b) k = finished (record { market = s.market; house = s.house; constituents = slice_set s.constituents j b })
 
   pub on_answer : (s : Stand) (e : Event) → Rests m s → concerns 0 e ≡ true → reply m s e ≡ says (house_view s) (house_view (after m s e)) e
   on_answer s (WrongTables (Account c)) k p = refl
@@ -92,20 +92,16 @@ module _ (m : Meaning) where
       subst (λ (t : Stand). house_view t ≡ by_order (house_view s) (cover_of t) (house_verdict m s c.call)) (sym is) (own_goes s (house_verdict m s c.call))
 
   account_turns : (s : Stand) (i : ℕ) (c : AccountCall) → Rests m s → (i ≡ 0 → ⊥) → house_view (after_account m s i c) ≡ by_turn (house_view s) (cover_of (after_account m s i c))
-  account_turns s zero c k ne = absurd (ne refl)
-  account_turns s (suc j) c k ne = go (cases_lt j (length s.constituents))
-    where
-      go : (j < length s.constituents) ⊎ (length s.constituents ≤ j) → house_view (after_account m s (suc j) c) ≡ by_turn (house_view s) (cover_of (after_account m s (suc j) c))
-      go (inl l) =
-          subst (λ (t : Stand). house_view t ≡ by_turn (house_view s) (cover_of t)) (sym (constituent_steps m s c j l)) (other_goes s j (constituent_verdict m s j c) k)
-      go (inr l) = subst (λ (t : Stand). house_view t ≡ by_turn (house_view s) (cover_of t)) (sym (absent_steps m s c j l)) (sym (house_rests s k))
+  account_turns s i c k ne =
+      account_cases m s i c (λ (t : Stand). house_view t ≡ by_turn (house_view s) (cover_of t)) (sym (house_rests s k)) (λ e. absurd (ne e))
+      (λ j e l. other_goes s j (constituent_verdict m s j c) k)
 
   pub on_other : (s : Stand) (e : Event) → Rests m s → concerns 0 e ≡ false → house_view (after m s e) ≡ by_turn (house_view s) (cover_of (after m s e))
   on_other s (WrongTables c) k p = sym (house_rests s k)
   on_other s (RightTables (Market c)) k p = absurd (true≢false p)
   on_other s (RightTables (Account c)) k p = account_turns s c.account c.call k (eqb-false c.account 0 p)
 
-  abbrev pub house_unwound : Unwound cover_of eqb m 0 house_view
+  abbrev pub house_unwound : Unwound cover_of nat_eq m 0 house_view
   house_unwound = record {
     Kept = Rests m;
     says = says;

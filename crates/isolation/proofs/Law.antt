@@ -1,9 +1,10 @@
 -- The law, put together.
-use Rattle.std.proofs.Common.{◌≡◌, ℕ, zero, suc, ◌+◌, ◌<◌, ◌≤◌, Bool, eqb, List, length, get_or, replicate, ℤ, sym, refl, ap, ◌∙◌, subst, arith}
+use Rattle.std.proofs.Common.{◌≡◌, ℕ, zero, suc, ◌+◌, ◌<◌, ◌≤◌, Bool, nat_eq, List, length, slice_index_or, replicate, ℤ, sym, refl, ap, ◌∙◌, subst, zero-add, arith}
 use mathlib.Core.Path.{fun_ext}
 use mathlib.Core.Bool.{beq}
-use lib.ListN.{length-replicate}
-use Rattle.std.specs.List.{AllByRecursion}
+use Rattle.std.proofs.lemmas.List.{length-replicate, get_or-replicate}
+use Rattle.std.proofs.lemmas.List.Elements.{All-replicate}
+use Rattle.std.specs.List.{All}
 use Rattle.models.specs.Meaning.{Meaning}
 use Rattle.tables.specs.Books.{Book, no_book}
 use Rattle.rules.specs.declared.call.Event.{Event}
@@ -49,32 +50,21 @@ opened_length month (suc n) some =
     let e : length (opened month (suc n)).constituents ≡ n = ap (λ (s : Stand). length s.constituents) (opened_is month (suc n)) ∙ length-replicate n empty_book in
     omega arith
 
-short_empty : (n : ℕ) → AllByRecursion (λ (b : Book). b.row.shortfall ≡ lacking b) (replicate n empty_book)
+short_empty : (n : ℕ) → All (λ (b : Book). b.row.shortfall ≡ lacking b) (replicate n empty_book)
 unfolding empty_row
-short_empty zero = tt
-short_empty (suc n) = (refl, short_empty n)
+short_empty n = All-replicate (λ (b : Book). b.row.shortfall ≡ lacking b) n empty_book refl
 
 opened_short : (month n : ℕ) → 1 ≤ n → Short (opened month n)
 opened_short month zero some = absurd (omega arith)
 opened_short month (suc n) some = subst Short (sym (opened_is month (suc n))) (short_empty n)
 
-empty_at : (n i : ℕ) → i < n → get_or (replicate n empty_book) i no_book ≡ empty_book
-empty_at zero i l = absurd (omega arith)
-empty_at (suc n) zero l = refl
-empty_at (suc n) (suc i) l = empty_at n i (omega arith)
-
 opened_book : (month n i : ℕ) → i < n → book_of (opened month n) i ≡ empty_book
 opened_book month zero i l = absurd (omega arith)
-opened_book month (suc n) i l = ap (λ (s : Stand). book_of s i) (opened_is month (suc n)) ∙ empty_at (suc n) i l
+opened_book month (suc n) i l = ap (λ (s : Stand). book_of s i) (opened_is month (suc n)) ∙ get_or-replicate (suc n) i empty_book no_book l
 
-empty_lots : (which : ℕ) → get_or empty_book.row.lots which 0 ≡ 0
+empty_lots : (which : ℕ) → which < 32 → slice_index_or empty_book.row.lots which 0 ≡ 0
 unfolding empty_row
-empty_lots which = go 32 which
-  where
-    go : (n w : ℕ) → ◌≡◌ {A = ℕ} (get_or (replicate n 0) w 0) 0
-    go zero w = refl
-    go (suc n) zero = refl
-    go (suc n) (suc w) = go n w
+empty_lots which low = get_or-replicate 32 which 0 0 low
 
 empty_cash : empty_book.row.cash ≡ 0
 unfolding empty_row
@@ -83,9 +73,6 @@ empty_cash = refl
 empty_long : length empty_book.row.lots ≡ 32
 unfolding empty_row
 empty_long = refl
-
-plus_none : (x : ℕ) → 0 + x ≡ x
-plus_none x = omega arith
 
 module _ (m : Meaning) (month n : ℕ) where
   abbrev first : Stand
@@ -110,7 +97,7 @@ module _ (m : Meaning) (month n : ℕ) where
       (same_meaning m l a)
       (λ h.
       let kept = opened_at_rest m month n some in
-      let o = isolated cover_of eqb m 0 house_view (house_unwound m) first first es fs kept kept refl h in
+      let o = isolated cover_of nat_eq m 0 house_view (house_unwound m) first first es fs kept kept refl h in
       (o.0, ap (λ (v : View ℕ). v.own) o.1))
 
   many : 1 ≤ n → (i : ℕ) → i < n → i < length (books_in first)
@@ -121,12 +108,12 @@ module _ (m : Meaning) (month n : ℕ) where
     cash = λ i l.
         let none : (book_of first i).row.cash ≡ 0 = ap (λ (b : Book). b.row.cash) (opened_book month n i l) ∙ empty_cash in
         let g : (book_of (run m first es) i).row.cash + accepted drawn_cash i es (replies m first es) ≡ (book_of first i).row.cash + accepted lodged_cash i es (replies m first es) = ledger_run cash_ledger m i first es (many some i l) tt in
-        g ∙ ap (λ (x : ℕ). x + accepted lodged_cash i es (replies m first es)) none ∙ plus_none (accepted lodged_cash i es (replies m first es));
+        g ∙ ap (λ (x : ℕ). x + accepted lodged_cash i es (replies m first es)) none ∙ zero-add (accepted lodged_cash i es (replies m first es));
     lots = λ i l which low.
-        let none : get_or (book_of first i).row.lots which 0 ≡ 0 = ap (λ (b : Book). get_or b.row.lots which 0) (opened_book month n i l) ∙ empty_lots which in
+        let none : slice_index_or (book_of first i).row.lots which 0 ≡ 0 = ap (λ (b : Book). slice_index_or b.row.lots which 0) (opened_book month n i l) ∙ empty_lots which low in
         let long : length (book_of first i).row.lots ≡ 32 = ap (λ (b : Book). length b.row.lots) (opened_book month n i l) ∙ empty_long in
-        let g : get_or (book_of (run m first es) i).row.lots which 0 + accepted (drawn_lots which) i es (replies m first es) ≡ get_or (book_of first i).row.lots which 0 + accepted (lodged_lots which) i es (replies m first es) = ledger_run (lots_ledger which low) m i first es (many some i l) long in
-        g ∙ ap (λ (x : ℕ). x + accepted (lodged_lots which) i es (replies m first es)) none ∙ plus_none (accepted (lodged_lots which) i es (replies m first es));
+        let g : slice_index_or (book_of (run m first es) i).row.lots which 0 + accepted (drawn_lots which) i es (replies m first es) ≡ slice_index_or (book_of first i).row.lots which 0 + accepted (lodged_lots which) i es (replies m first es) = ledger_run (lots_ledger which low) m i first es (many some i l) long in
+        g ∙ ap (λ (x : ℕ). x + accepted (lodged_lots which) i es (replies m first es)) none ∙ zero-add (accepted (lodged_lots which) i es (replies m first es));
   }
 
   pub covered_run : 1 ≤ n → (es : List Event) → Covered m (run m first es)

@@ -1,8 +1,8 @@
 -- What an account holds is what its accepted calls lodged less what they drew.
-use Rattle.std.proofs.Common.{◌≡◌, ℕ, zero, suc, ◌+◌, ◌<◌, ◌≤◌, Bool, true, false, cond, eqb, ◌⊎◌, List, [], ◌∷◌, map, length, get_or, set, Some, None, Ok, Err, Option, Result, sym, refl, ap, ◌∙◌, subst, ap₂, inl, inr, arith, length-set, get_or-set_other, get_or-set_same}
+use Rattle.std.proofs.Common.{◌≡◌, ℕ, zero, suc, ◌+◌, ◌<◌, Bool, true, false, if◌then◌else◌, nat_eq, ◌⊎◌, List, [], ◌∷◌, map, length, slice_index_or, slice_set, Some, None, Ok, Err, Option, Result, sym, refl, ap, ◌∙◌, subst, ap₂, inl, inr, arith, length-set, get_or-set_other, get_or-set_same}
 use lib.ListN.{length-map}
 use Rattle.std.proofs.lemmas.List.{get_or-map}
-use Rattle.std.proofs.lemmas.Bool.{eq-eqb, ne_eqb, cases_lt, cases_eq, cond-true, cond-false}
+use Rattle.std.proofs.lemmas.Bool.{eq-eqb, ne_eqb, cases_eq, cond-true, cond-false}
 use Rattle.models.specs.Meaning.{Meaning}
 use Rattle.refusals.specs.declared.refusal.Refusal.{Refusal}
 use Rattle.refusals.specs.Refusals.{first_no, decided, number_of}
@@ -26,7 +26,7 @@ use Rattle.rules.specs.Calls.{reply_number}
 use Rattle.rules.specs.MarketCalls.{matured_out, aged_by, new_month, aged}
 use Rattle.isolation.specs.Runs.{after, reply, run, replies, moved, accepted}
 use Rattle.isolation.specs.Isolation.{book_of}
-use Rattle.isolation.proofs.Steps.{house_after, constituent_after, market_after, house_verdict, constituent_verdict, house_steps, house_replies, constituent_steps, constituent_replies, absent_steps, length_after}
+use Rattle.isolation.proofs.Steps.{house_after, constituent_after, market_after, house_verdict, constituent_verdict, house_steps, house_replies, constituent_steps, constituent_replies, account_cases, length_after}
 
 -- a granted call was asked, and leaves the book as it settles with the change
 pub granted_asked : (m : Meaning) (k : MarketState) (h : Bool) (x : ℕ) (b y : Book) (c : AccountCall) → ordered m k h x b c ≡ granted y → (first_no (asked_before k b c) ≡ Ok tt) × (y ≡ tried m k x b c)
@@ -66,7 +66,7 @@ unfolding settled_row
 finish_same m s zero l = (refl, refl)
 finish_same m s (suc j) l =
     let r = (finish m s).house.row.own in
-    let is : get_or (map (reflagged r) s.constituents) j no_book ≡ reflagged r (get_or s.constituents j no_book) = get_or-map (reflagged r) s.constituents j no_book no_book (omega arith) in
+    let is : slice_index_or (map (reflagged r) s.constituents) j no_book ≡ reflagged r (slice_index_or s.constituents j no_book) = get_or-map (reflagged r) s.constituents j no_book no_book (omega arith) in
     (ap (λ (b : Book). b.row.cash) is, ap (λ (b : Book). b.row.lots) is)
 
 through : (a b c : Book) → Same a b → Same b c → Same a c
@@ -84,7 +84,7 @@ announced_same m s c (suc j) l =
     let k = market_changed c s.market in
     let d = announced m s c in
     let f : Book → Book = λ b. settled m k 0 (aged c b) in
-    let b = get_or s.constituents j no_book in
+    let b = slice_index_or s.constituents j no_book in
     let is : book_of d (suc j) ≡ f b = get_or-map f s.constituents j no_book no_book (omega arith) in
     let at : Same (book_of d (suc j)) (f b) = (ap (λ (x : Book). x.row.cash) is, ap (λ (x : Book). x.row.lots) is) in
     let now' = finish_same m d (suc j) (omega (arith, length-map s.constituents f)) in
@@ -96,26 +96,23 @@ market_same m s c i (Err e) l = (refl, refl)
 market_same m s c i (Ok x) l = announced_same m s c i l
 
 -- a call on the house, or on a constituent, leaves what every other account holds
-house_other : (m : Meaning) (s : Stand) (j : ℕ) (v : Verdict Book) → suc j < length (books_in s) → Same (book_of (house_after m s v) (suc j)) (book_of s (suc j))
-house_other m s j (refused e) l = (refl, refl)
-house_other m s j (granted b) l = finish_same m (record { market = s.market; house = b; constituents = s.constituents }) (suc j) l
+house_other : (m : Meaning) (s : Stand) (i : ℕ) (v : Verdict Book) → i < length (books_in s) → (i ≡ 0 → ⊥) → Same (book_of (house_after m s v) i) (book_of s i)
+house_other m s i (refused e) l ne = (refl, refl)
+house_other m s zero (granted b) l ne = absurd (ne refl)
+house_other m s (suc j) (granted b) l ne = finish_same m (record { market = s.market; house = b; constituents = s.constituents }) (suc j) l
 
 constituent_other : (m : Meaning) (s : Stand) (i a : ℕ) (v : Verdict Book) → i < length (books_in s) → (suc a ≡ i → ⊥) → Same (book_of (constituent_after m s a v) i) (book_of s i)
 constituent_other m s i a (refused e) l ne = (refl, refl)
-constituent_other m s zero a (granted b) l ne = finish_same m (record { market = s.market; house = s.house; constituents = set s.constituents a b }) 0 (omega arith)
+constituent_other m s zero a (granted b) l ne = finish_same m (record { market = s.market; house = s.house; constituents = slice_set s.constituents a b }) 0 (omega arith)
 constituent_other m s (suc j) a (granted b) l ne =
-    let d : Stand = record { market = s.market; house = s.house; constituents = set s.constituents a b } in
+    let d : Stand = record { market = s.market; house = s.house; constituents = slice_set s.constituents a b } in
     let is : book_of d (suc j) ≡ book_of s (suc j) = get_or-set_other s.constituents a j b no_book (λ e. ne (ap suc (sym e))) in
     through (book_of (finish m d) (suc j)) (book_of d (suc j)) (book_of s (suc j)) (finish_same m d (suc j) (omega (arith, length-set s.constituents a b))) (ap (λ (x : Book). x.row.cash) is, ap (λ (x : Book). x.row.lots) is)
 
 other_same : (m : Meaning) (s : Stand) (i a : ℕ) (c : AccountCall) → i < length (books_in s) → (a ≡ i → ⊥) → Same (book_of (after_account m s a c) i) (book_of s i)
-other_same m s zero zero c l ne = absurd (ne refl)
-other_same m s (suc j) zero c l ne = subst (λ (t : Stand). Same (book_of t (suc j)) (book_of s (suc j))) (sym (house_steps m s c)) (house_other m s j (house_verdict m s c) l)
-other_same m s i (suc a) c l ne = go (cases_lt a (length s.constituents))
-  where
-    go : (a < length s.constituents) ⊎ (length s.constituents ≤ a) → Same (book_of (after_account m s (suc a) c) i) (book_of s i)
-    go (inl h) = subst (λ (t : Stand). Same (book_of t i) (book_of s i)) (sym (constituent_steps m s c a h)) (constituent_other m s i a (constituent_verdict m s a c) l ne)
-    go (inr h) = subst (λ (t : Stand). Same (book_of t i) (book_of s i)) (sym (absent_steps m s c a h)) (refl, refl)
+other_same m s i a c l ne =
+    account_cases m s a c (λ (t : Stand). Same (book_of t i) (book_of s i)) (refl, refl) (λ e. house_other m s i (house_verdict m s c) l (λ z. ne (e ∙ sym z)))
+    (λ j e h. constituent_other m s i j (constituent_verdict m s j c) l (λ z. ne (e ∙ z)))
 
 module _ (L : Ledger) (m : Meaning) (i : ℕ) where
   abbrev held : Stand → ℕ
@@ -126,7 +123,7 @@ module _ (L : Ledger) (m : Meaning) (i : ℕ) where
 
   -- what an event moves, if it is accepted
   abbrev counted : (AccountCall → ℕ) → Event → Reply → ℕ
-  counted f e o = cond (eqb (reply_number o) 0) (moved f i e) 0
+  counted f e o = (if nat_eq (reply_number o) 0 then moved f i e else 0)
 
   same_held : (s t : Stand) → Same (book_of t i) (book_of s i) → held t ≡ held s
   same_held s t p = ap₂ L.hold p.0 p.1
@@ -135,7 +132,7 @@ module _ (L : Ledger) (m : Meaning) (i : ℕ) where
   same_fits s t p f = subst L.fits (sym p.1) f
 
   -- nothing moves
-  none : (b : Bool) → ◌≡◌ {A = ℕ} (cond b 0 0) 0
+  none : (b : Bool) → ◌≡◌ {A = ℕ} (if b then 0 else 0) 0
   none true = refl
   none false = refl
 
@@ -159,19 +156,19 @@ module _ (L : Ledger) (m : Meaning) (i : ℕ) where
 
   -- a refused call has a number, so that it is not counted
   uncounted : (f : AccountCall → ℕ) (e : Event) (o : Reply) (r : Refusal) → reply_number o ≡ number_of r → counted f e o ≡ 0
-  uncounted f e o r n = cond-false (eqb (reply_number o) 0) (moved f i e) 0 (ne_eqb (reply_number o) 0 (λ z. refusal_some r (sym n ∙ z)))
+  uncounted f e o r n = cond-false (nat_eq (reply_number o) 0) (moved f i e) 0 (ne_eqb (reply_number o) 0 (λ z. refusal_some r (sym n ∙ z)))
 
   -- an accepted call of account i is counted
-  counts : (f : AccountCall → ℕ) (a : ℕ) (c : AccountCall) (o : Reply) → a ≡ i → reply_number o ≡ 0 → cond (eqb (reply_number o) 0) (cond (eqb a i) (f c) 0) 0 ≡ f c
-  counts f a c o at n = cond-true (eqb (reply_number o) 0) (cond (eqb a i) (f c) 0) 0 (eq-eqb (reply_number o) 0 n) ∙ cond-true (eqb a i) (f c) 0 (eq-eqb a i at)
+  counts : (f : AccountCall → ℕ) (a : ℕ) (c : AccountCall) (o : Reply) → a ≡ i → reply_number o ≡ 0 → (if nat_eq (reply_number o) 0 then (if nat_eq a i then f c else 0) else 0) ≡ f c
+  counts f a c o at n = cond-true (nat_eq (reply_number o) 0) (if nat_eq a i then f c else 0) 0 (eq-eqb (reply_number o) 0 n) ∙ cond-true (nat_eq a i) (f c) 0 (eq-eqb a i at)
 
   -- a call of another account is not counted
-  other_counts : (f : AccountCall → ℕ) (a : ℕ) (c : AccountCall) (o : Reply) → (a ≡ i → ⊥) → cond (eqb (reply_number o) 0) (cond (eqb a i) (f c) 0) 0 ≡ 0
-  other_counts f a c o ne = ap (λ (x : ℕ). cond (eqb (reply_number o) 0) x 0) (cond-false (eqb a i) (f c) 0 (ne_eqb a i ne)) ∙ none (eqb (reply_number o) 0)
+  other_counts : (f : AccountCall → ℕ) (a : ℕ) (c : AccountCall) (o : Reply) → (a ≡ i → ⊥) → (if nat_eq (reply_number o) 0 then (if nat_eq a i then f c else 0) else 0) ≡ 0
+  other_counts f a c o ne = ap (λ (x : ℕ). (if nat_eq (reply_number o) 0 then x else 0)) (cond-false (nat_eq a i) (f c) 0 (ne_eqb a i ne)) ∙ none (nat_eq (reply_number o) 0)
 
   -- a call of account i itself, by the verdict on its book: t is the stand after it
   own_goes : (s t : Stand) (e : Event) (a : ℕ) (c : AccountCall) (o : Reply) (k : MarketState) (x : ℕ) (h : Bool) (b : Book) (v : Verdict Book)
-      → ((f : AccountCall → ℕ) → counted f e o ≡ cond (eqb (reply_number o) 0) (cond (eqb a i) (f c) 0) 0) → a ≡ i
+      → ((f : AccountCall → ℕ) → counted f e o ≡ (if nat_eq (reply_number o) 0 then (if nat_eq a i then f c else 0) else 0)) → a ≡ i
       → ordered m k h x b c ≡ v → book_of s i ≡ b → reply_number o ≡ verdict_number v
       → ((r : Refusal) → v ≡ refused r → t ≡ s) → ((y : Book) → v ≡ granted y → Same (book_of t i) y) → Fits s → Goes s t e o
   own_goes s t e a c o k x h b (refused r) is at w bs n stays goes f =
@@ -186,12 +183,12 @@ house_granted m s y = finish_same m (record { market = s.market; house = y; cons
 
 constituent_granted : (m : Meaning) (s : Stand) (j : ℕ) (y : Book) → j < length s.constituents → Same (book_of (constituent_after m s j (granted y)) (suc j)) y
 constituent_granted m s j y l =
-    let d : Stand = record { market = s.market; house = s.house; constituents = set s.constituents j y } in
+    let d : Stand = record { market = s.market; house = s.house; constituents = slice_set s.constituents j y } in
     let is : book_of d (suc j) ≡ y = get_or-set_same s.constituents j y no_book l in
     through (book_of (finish m d) (suc j)) (book_of d (suc j)) y (finish_same m d (suc j) (omega (arith, length-set s.constituents j y))) (ap (λ (x : Book). x.row.cash) is, ap (λ (x : Book). x.row.lots) is)
 
 module _ (L : Ledger) (m : Meaning) where
-  named_goes : (i : ℕ) (s : Stand) (a : ℕ) (c : AccountCall) (o : Reply) (e : Event) → ((f : AccountCall → ℕ) → counted L m i f e o ≡ cond (eqb (reply_number o) 0) (cond (eqb a i) (f c) 0) 0)
+  named_goes : (i : ℕ) (s : Stand) (a : ℕ) (c : AccountCall) (o : Reply) (e : Event) → ((f : AccountCall → ℕ) → counted L m i f e o ≡ (if nat_eq (reply_number o) 0 then (if nat_eq a i then f c else 0) else 0))
       → reply_number o ≡ (account_reply m s a c).number → i < length (books_in s) → Fits L m i s → (a ≡ i) ⊎ (a ≡ i → ⊥) → Goes L m i s (after_account m s a c) e o
   named_goes i s a c o e is n l f (inr ne) =
       idle L m i s (after_account m s a c) e o (other_same m s i a c l ne) (is L.out ∙ other_counts L m i L.out a c o ne) (is L.into ∙ other_counts L m i L.into a c o ne) f
@@ -203,7 +200,7 @@ module _ (L : Ledger) (m : Meaning) where
   named_goes (suc j) s a c o e is n l f (inl at) =
       let lt : j < length s.constituents = omega arith in
       let steps : after_account m s a c ≡ constituent_after m s j (constituent_verdict m s j c) = ap (λ (x : ℕ). after_account m s x c) at ∙ constituent_steps m s c j lt in
-      own_goes L m (suc j) s (after_account m s a c) e a c o s.market 0 false (get_or s.constituents j no_book) (constituent_verdict m s j c) is at refl refl
+      own_goes L m (suc j) s (after_account m s a c) e a c o s.market 0 false (slice_index_or s.constituents j no_book) (constituent_verdict m s j c) is at refl refl
       (n ∙ ap (λ (x : ℕ). (account_reply m s x c).number) at ∙ ap (λ (x : Answer). x.number) (constituent_replies m s c j lt))
       (λ r v. steps ∙ ap (constituent_after m s j) v) (λ y v. subst (λ (z : Stand). Same (book_of z (suc j)) y) (sym (steps ∙ ap (constituent_after m s j) v)) (constituent_granted m s j y lt)) f
 
@@ -212,7 +209,7 @@ module _ (L : Ledger) (m : Meaning) where
   event_goes i s (WrongTables (Market c)) l f = (refl, f)
   event_goes i s (RightTables (Market c)) l f =
       idle L m i s (after m s (RightTables (Market c))) (RightTables (Market c)) (reply m s (RightTables (Market c))) (market_same m s c i (first_no (market_questions m.sets s.market c)) l)
-      (none L m i (eqb (reply_number (reply m s (RightTables (Market c)))) 0)) (none L m i (eqb (reply_number (reply m s (RightTables (Market c)))) 0)) f
+      (none L m i (nat_eq (reply_number (reply m s (RightTables (Market c)))) 0)) (none L m i (nat_eq (reply_number (reply m s (RightTables (Market c)))) 0)) f
   event_goes i s (RightTables (Account c)) l f =
       named_goes i s c.account c.call (reply m s (RightTables (Account c))) (RightTables (Account c)) (λ g. refl) refl l f (cases_eq c.account i)
 

@@ -1,5 +1,5 @@
 -- What an account call leaves of the constituents that it does not name.
-use Rattle.std.proofs.Common.{◌≡◌, ℕ, zero, suc, ◌<◌, ◌≤◌, Bool, false, cond, eqb, ◌⊎◌, length, set, sym, ap, ◌∙◌, subst, ap₂, inl, inr, arith, length-set, get_or-set_other}
+use Rattle.std.proofs.Common.{◌≡◌, ℕ, zero, suc, ◌<◌, ◌≤◌, Bool, false, if◌then◌else◌, nat_eq, ◌⊎◌, length, slice_set, sym, ap, ◌∙◌, subst, ap₂, inl, inr, arith, length-set, get_or-set_other}
 use Rattle.std.proofs.lemmas.List.{get_or-map}
 use Rattle.std.proofs.lemmas.Bool.{ne_eqb, le-ltb, cond-false, cases_lt}
 use Rattle.models.specs.Meaning.{Meaning}
@@ -17,9 +17,9 @@ use Rattle.isolation.specs.Isolation.{book_of}
 use Rattle.isolation.proofs.Steps.{house_after, constituent_after, house_verdict, constituent_verdict, house_steps, house_replies, constituent_steps, constituent_replies, absent_steps}
 
 abbrev pub left_book : Bool → Bool → Book → Book
-left_book accepted restricted b = cond accepted (reflagged restricted b) b
+left_book accepted restricted b = (if accepted then reflagged restricted b else b)
 
-refused_number : (r : Refusal) → eqb (number_of r) 0 ≡ false
+refused_number : (r : Refusal) → nat_eq (number_of r) 0 ≡ false
 refused_number r = ne_eqb (number_of r) 0 (refusal_some r)
 
 -- a constituent's book when a stand is settled
@@ -27,30 +27,30 @@ finish_flags : (m : Meaning) (s : Stand) (j : ℕ) → j < length s.constituents
 finish_flags m s j l = get_or-map (reflagged (finish m s).house.row.own) s.constituents j no_book no_book l
 
 house_leaves : (m : Meaning) (s : Stand) (j : ℕ) (v : Verdict Book) → j < length s.constituents
-    → book_of (house_after m s v) (suc j) ≡ left_book (eqb (verdict_number v) 0) (house_after m s v).house.row.own (book_of s (suc j))
-house_leaves m s j (refused r) l = sym (cond-false (eqb (number_of r) 0) (reflagged s.house.row.own (book_of s (suc j))) (book_of s (suc j)) (refused_number r))
+    → book_of (house_after m s v) (suc j) ≡ left_book (nat_eq (verdict_number v) 0) (house_after m s v).house.row.own (book_of s (suc j))
+house_leaves m s j (refused r) l = sym (cond-false (nat_eq (number_of r) 0) (reflagged s.house.row.own (book_of s (suc j))) (book_of s (suc j)) (refused_number r))
 house_leaves m s j (granted b) l = finish_flags m (record { market = s.market; house = b; constituents = s.constituents }) j l
 
 constituent_leaves : (m : Meaning) (s : Stand) (j i : ℕ) (v : Verdict Book) → j < length s.constituents → (j ≡ i → ⊥)
-    → book_of (constituent_after m s i v) (suc j) ≡ left_book (eqb (verdict_number v) 0) (constituent_after m s i v).house.row.own (book_of s (suc j))
-constituent_leaves m s j i (refused r) l ne = sym (cond-false (eqb (number_of r) 0) (reflagged s.house.row.own (book_of s (suc j))) (book_of s (suc j)) (refused_number r))
+    → book_of (constituent_after m s i v) (suc j) ≡ left_book (nat_eq (verdict_number v) 0) (constituent_after m s i v).house.row.own (book_of s (suc j))
+constituent_leaves m s j i (refused r) l ne = sym (cond-false (nat_eq (number_of r) 0) (reflagged s.house.row.own (book_of s (suc j))) (book_of s (suc j)) (refused_number r))
 constituent_leaves m s j i (granted b) l ne =
-    let d : Stand = record { market = s.market; house = s.house; constituents = set s.constituents i b } in
+    let d : Stand = record { market = s.market; house = s.house; constituents = slice_set s.constituents i b } in
     finish_flags m d j (subst (λ (n : ℕ). j < n) (sym (length-set s.constituents i b)) l)
     ∙ ap (reflagged (finish m d).house.row.own) (get_or-set_other s.constituents i j b no_book ne)
 
 pub others_left : (m : Meaning) (s : Stand) (i : ℕ) (c : AccountCall) (j : ℕ) → j < length s.constituents → (suc j ≡ i → ⊥)
-    → book_of (after_account m s i c) (suc j) ≡ left_book (eqb (account_reply m s i c).number 0) (after_account m s i c).house.row.own (book_of s (suc j))
+    → book_of (after_account m s i c) (suc j) ≡ left_book (nat_eq (account_reply m s i c).number 0) (after_account m s i c).house.row.own (book_of s (suc j))
 others_left m s zero c j l ne =
     ap (λ (t : Stand). book_of t (suc j)) (house_steps m s c) ∙ house_leaves m s j (house_verdict m s c) l
-    ∙ ap₂ (λ (n : ℕ) (t : Stand). left_book (eqb n 0) t.house.row.own (book_of s (suc j))) (sym (ap (λ (a : Answer). a.number) (house_replies m s c))) (sym (house_steps m s c))
+    ∙ ap₂ (λ (n : ℕ) (t : Stand). left_book (nat_eq n 0) t.house.row.own (book_of s (suc j))) (sym (ap (λ (a : Answer). a.number) (house_replies m s c))) (sym (house_steps m s c))
 others_left m s (suc i) c j l ne = go (cases_lt i (length s.constituents))
   where
-    go : (i < length s.constituents) ⊎ (length s.constituents ≤ i) → book_of (after_account m s (suc i) c) (suc j) ≡ left_book (eqb (account_reply m s (suc i) c).number 0) (after_account m s (suc i) c).house.row.own (book_of s (suc j))
+    go : (i < length s.constituents) ⊎ (length s.constituents ≤ i) → book_of (after_account m s (suc i) c) (suc j) ≡ left_book (nat_eq (account_reply m s (suc i) c).number 0) (after_account m s (suc i) c).house.row.own (book_of s (suc j))
     go (inl h) =
         ap (λ (t : Stand). book_of t (suc j)) (constituent_steps m s c i h) ∙ constituent_leaves m s j i (constituent_verdict m s i c) l (λ e. ne (ap suc e))
-        ∙ ap₂ (λ (n : ℕ) (t : Stand). left_book (eqb n 0) t.house.row.own (book_of s (suc j))) (sym (ap (λ (a : Answer). a.number) (constituent_replies m s c i h))) (sym (constituent_steps m s c i h))
+        ∙ ap₂ (λ (n : ℕ) (t : Stand). left_book (nat_eq n 0) t.house.row.own (book_of s (suc j))) (sym (ap (λ (a : Answer). a.number) (constituent_replies m s c i h))) (sym (constituent_steps m s c i h))
     go (inr h) =
         let two : account_reply m s (suc i) c ≡ blank_answer (number_of NoAccount) = cond-false _ _ (blank_answer (number_of NoAccount)) (le-ltb (suc i) (length (books_in s)) (omega arith)) in
         ap (λ (t : Stand). book_of t (suc j)) (absent_steps m s c i h)
-        ∙ ap (λ (n : ℕ). left_book (eqb n 0) (after_account m s (suc i) c).house.row.own (book_of s (suc j))) (sym (ap (λ (a : Answer). a.number) two))
+        ∙ ap (λ (n : ℕ). left_book (nat_eq n 0) (after_account m s (suc i) c).house.row.own (book_of s (suc j))) (sym (ap (λ (a : Answer). a.number) two))

@@ -1,5 +1,5 @@
 -- One call on the house's own account, on a constituent or of the market, as the rules make it.
-use Rattle.std.proofs.Common.{◌≡◌, ℕ, zero, suc, ◌<◌, ◌≤◌, Bool, true, false, cond, eqb, ltb, ◌⊎◌, List, [], ◌∷◌, map, length, get_or, set, Ok, Err, Result, sym, refl, ap, ◌∙◌, subst, inl, inr, arith, length-set}
+use Rattle.std.proofs.Common.{◌≡◌, ℕ, zero, suc, ◌<◌, ◌≤◌, Bool, true, false, if◌then◌else◌, nat_eq, nat_lt, ◌⊎◌, List, [], ◌∷◌, map, length, slice_index_or, slice_set, Ok, Err, Result, sym, refl, ap, ◌∙◌, subst, inl, inr, arith, length-set}
 use lib.ListN.{length-map}
 use Rattle.std.proofs.lemmas.Bool.{lt-ltb, le-ltb, ne_eqb, cond-true, cond-false, cases_lt}
 use Rattle.models.specs.Meaning.{Meaning}
@@ -27,7 +27,7 @@ house_after m s (granted b) = finish m (record { market = s.market; house = b; c
 
 abbrev pub constituent_after : Meaning → Stand → ℕ → Verdict Book → Stand
 constituent_after m s j (refused e) = s
-constituent_after m s j (granted b) = finish m (record { market = s.market; house = s.house; constituents = set s.constituents j b })
+constituent_after m s j (granted b) = finish m (record { market = s.market; house = s.house; constituents = slice_set s.constituents j b })
 
 abbrev pub market_after : Meaning → Stand → MarketCall → Result (Unit {0}) Refusal → Stand
 market_after m s c r = decided r (all_settled m (market_changed c s.market) c s) (λ e. s)
@@ -37,7 +37,7 @@ abbrev pub house_verdict : Meaning → Stand → AccountCall → Verdict Book
 house_verdict m s c = ordered m s.market true (cover_of s) s.house c
 
 abbrev pub constituent_verdict : Meaning → Stand → ℕ → AccountCall → Verdict Book
-constituent_verdict m s j c = ordered m s.market false 0 (get_or s.constituents j no_book) c
+constituent_verdict m s j c = ordered m s.market false 0 (slice_index_or s.constituents j no_book) c
 
 module _ (m : Meaning) (s : Stand) (c : AccountCall) where
   concluded_house : (v : Verdict Book) → concluded m s 0 v ≡ house_after m s v
@@ -48,33 +48,43 @@ module _ (m : Meaning) (s : Stand) (c : AccountCall) where
   concluded_constituent j (refused e) = refl
   concluded_constituent j (granted b) = refl
 
-  here : ltb 0 (length (books_in s)) ≡ true
+  here : nat_lt 0 (length (books_in s)) ≡ true
   here = lt-ltb 0 (length (books_in s)) (omega arith)
 
   pub house_steps : after_account m s 0 c ≡ house_after m s (house_verdict m s c)
-  house_steps = cond-true (ltb 0 (length (books_in s))) (concluded m s 0 (verdict m s 0 c)) s here ∙ concluded_house (house_verdict m s c)
+  house_steps = cond-true (nat_lt 0 (length (books_in s))) (concluded m s 0 (verdict m s 0 c)) s here ∙ concluded_house (house_verdict m s c)
 
   pub house_replies : account_reply m s 0 c ≡ answer_of (verdict_number (house_verdict m s c)) (after_account m s 0 c).house.row
-  house_replies = cond-true (ltb 0 (length (books_in s))) (answer_of (verdict_number (verdict m s 0 c)) (after_account m s 0 c).house.row) (blank_answer (number_of NoAccount)) here
+  house_replies = cond-true (nat_lt 0 (length (books_in s))) (answer_of (verdict_number (verdict m s 0 c)) (after_account m s 0 c).house.row) (blank_answer (number_of NoAccount)) here
 
   module _ (j : ℕ) where
     verdict_is : verdict m s (suc j) c ≡ constituent_verdict m s j c
     verdict_is =
-        let no : eqb (suc j) 0 ≡ false = ne_eqb (suc j) 0 (λ z. omega arith) in
-        ap (λ (b : Bool). ordered m s.market b (cond b (cover_of s) 0) (get_or s.constituents j no_book) c) no
+        let no : nat_eq (suc j) 0 ≡ false = ne_eqb (suc j) 0 (λ z. omega arith) in
+        ap (λ (b : Bool). ordered m s.market b (if b then cover_of s else 0) (slice_index_or s.constituents j no_book) c) no
 
     pub constituent_steps : j < length s.constituents → after_account m s (suc j) c ≡ constituent_after m s j (constituent_verdict m s j c)
     constituent_steps l =
-        cond-true (ltb (suc j) (length (books_in s))) (concluded m s (suc j) (verdict m s (suc j) c)) s (lt-ltb (suc j) (length (books_in s)) (omega arith))
+        cond-true (nat_lt (suc j) (length (books_in s))) (concluded m s (suc j) (verdict m s (suc j) c)) s (lt-ltb (suc j) (length (books_in s)) (omega arith))
         ∙ ap (concluded m s (suc j)) verdict_is ∙ concluded_constituent j (constituent_verdict m s j c)
 
-    pub constituent_replies : j < length s.constituents → account_reply m s (suc j) c ≡ answer_of (verdict_number (constituent_verdict m s j c)) (get_or (after_account m s (suc j) c).constituents j no_book).row
+    pub constituent_replies : j < length s.constituents → account_reply m s (suc j) c ≡ answer_of (verdict_number (constituent_verdict m s j c)) (slice_index_or (after_account m s (suc j) c).constituents j no_book).row
     constituent_replies l =
-        cond-true (ltb (suc j) (length (books_in s))) (answer_of (verdict_number (verdict m s (suc j) c)) (get_or (after_account m s (suc j) c).constituents j no_book).row) (blank_answer (number_of NoAccount)) (lt-ltb (suc j) (length (books_in s)) (omega arith))
-        ∙ ap (λ (v : Verdict Book). answer_of (verdict_number v) (get_or (after_account m s (suc j) c).constituents j no_book).row) verdict_is
+        cond-true (nat_lt (suc j) (length (books_in s))) (answer_of (verdict_number (verdict m s (suc j) c)) (slice_index_or (after_account m s (suc j) c).constituents j no_book).row) (blank_answer (number_of NoAccount)) (lt-ltb (suc j) (length (books_in s)) (omega arith))
+        ∙ ap (λ (v : Verdict Book). answer_of (verdict_number v) (slice_index_or (after_account m s (suc j) c).constituents j no_book).row) verdict_is
 
     pub absent_steps : length s.constituents ≤ j → after_account m s (suc j) c ≡ s
-    absent_steps l = cond-false (ltb (suc j) (length (books_in s))) (concluded m s (suc j) (verdict m s (suc j) c)) s (le-ltb (suc j) (length (books_in s)) (omega arith))
+    absent_steps l = cond-false (nat_lt (suc j) (length (books_in s))) (concluded m s (suc j) (verdict m s (suc j) c)) s (le-ltb (suc j) (length (books_in s)) (omega arith))
+
+-- what holds of the stand after any account call: account 0 is the house, and beyond the constituents is no account
+pub account_cases : (m : Meaning) (s : Stand) (i : ℕ) (c : AccountCall) (P : Stand → Type 0) → P s → (i ≡ 0 → P (house_after m s (house_verdict m s c)))
+    → ((j : ℕ) → i ≡ suc j → j < length s.constituents → P (constituent_after m s j (constituent_verdict m s j c))) → P (after_account m s i c)
+account_cases m s zero c P same house other = subst P (sym (house_steps m s c)) (house refl)
+account_cases m s (suc j) c P same house other = go (cases_lt j (length s.constituents))
+  where
+    go : (j < length s.constituents) ⊎ (length s.constituents ≤ j) → P (after_account m s (suc j) c)
+    go (inl l) = subst P (sym (constituent_steps m s c j l)) (other j refl l)
+    go (inr l) = subst P (sym (absent_steps m s c j l)) same
 
 -- a stand at rest: settling it once more changes nothing
 abbrev pub Rests : Meaning → Stand → Type 0
@@ -93,12 +103,8 @@ market_rests_after m s c (Ok x) k = finish_rests m _
 market_rests_after m s c (Err e) k = k
 
 account_rests : (m : Meaning) (s : Stand) (i : ℕ) (c : AccountCall) → Rests m s → Rests m (after_account m s i c)
-account_rests m s zero c k = subst (Rests m) (sym (house_steps m s c)) (house_rests_after m s (house_verdict m s c) k)
-account_rests m s (suc j) c k = go (cases_lt j (length s.constituents))
-  where
-    go : (j < length s.constituents) ⊎ (length s.constituents ≤ j) → Rests m (after_account m s (suc j) c)
-    go (inl l) = subst (Rests m) (sym (constituent_steps m s c j l)) (constituent_rests_after m s j (constituent_verdict m s j c) k)
-    go (inr l) = subst (Rests m) (sym (absent_steps m s c j l)) k
+account_rests m s i c k =
+    account_cases m s i c (Rests m) k (λ e. house_rests_after m s (house_verdict m s c) k) (λ j e l. constituent_rests_after m s j (constituent_verdict m s j c) k)
 
 -- a stand stays at rest
 pub rests_after : (m : Meaning) (s : Stand) (e : Event) → Rests m s → Rests m (after m s e)
@@ -121,7 +127,7 @@ house_length m s (granted b) = finish_length m (record { market = s.market; hous
 constituent_length : (m : Meaning) (s : Stand) (j : ℕ) (v : Verdict Book) → length (constituent_after m s j v).constituents ≡ length s.constituents
 constituent_length m s j (refused e) = refl
 constituent_length m s j (granted b) =
-    finish_length m (record { market = s.market; house = s.house; constituents = set s.constituents j b }) ∙ length-set s.constituents j b
+    finish_length m (record { market = s.market; house = s.house; constituents = slice_set s.constituents j b }) ∙ length-set s.constituents j b
 
 market_length : (m : Meaning) (s : Stand) (c : MarketCall) (r : Result (Unit {0}) Refusal) → length (market_after m s c r).constituents ≡ length s.constituents
 market_length m s c (Ok x) =
@@ -131,12 +137,8 @@ market_length m s c (Ok x) =
 market_length m s c (Err e) = refl
 
 account_length : (m : Meaning) (s : Stand) (i : ℕ) (c : AccountCall) → length (after_account m s i c).constituents ≡ length s.constituents
-account_length m s zero c = ap (λ (t : Stand). length t.constituents) (house_steps m s c) ∙ house_length m s (house_verdict m s c)
-account_length m s (suc j) c = go (cases_lt j (length s.constituents))
-  where
-    go : (j < length s.constituents) ⊎ (length s.constituents ≤ j) → length (after_account m s (suc j) c).constituents ≡ length s.constituents
-    go (inl l) = ap (λ (t : Stand). length t.constituents) (constituent_steps m s c j l) ∙ constituent_length m s j (constituent_verdict m s j c)
-    go (inr l) = ap (λ (t : Stand). length t.constituents) (absent_steps m s c j l)
+account_length m s i c =
+    account_cases m s i c (λ (t : Stand). length t.constituents ≡ length s.constituents) refl (λ e. house_length m s (house_verdict m s c)) (λ j e l. constituent_length m s j (constituent_verdict m s j c))
 
 pub length_after : (m : Meaning) (s : Stand) (e : Event) → length (after m s e).constituents ≡ length s.constituents
 length_after m s (WrongTables c) = refl

@@ -1,5 +1,5 @@
 -- Unwinding: where a holder's view goes by what the holder is told, holders that see and are told the same observe the same.
-use Rattle.std.proofs.Common.{◌≡◌, ℕ, suc, Bool, true, false, cond, List, [], ◌∷◌, ◌++◌, map, length, sym, refl, ap, ◌∙◌, ap₂, append_assoc}
+use Rattle.std.proofs.Common.{◌≡◌, ℕ, suc, Bool, true, false, if◌then◌else◌, List, [], ◌∷◌, ◌++◌, map, length, sym, refl, ap, ◌∙◌, ap₂, append_assoc}
 use Rattle.models.specs.Meaning.{Meaning}
 use Rattle.tables.specs.Books.{Book}
 use Rattle.rules.specs.declared.call.Event.{Event}
@@ -40,7 +40,7 @@ module _ {B : Type 0} (figure : Stand → B) (same : B → B → Bool) (m : Mean
     stays s e k p q = sym (U.rests s k) ∙ ap (λ (b : B). U.by_turn (view s) b) (U.same_is _ _ q) ∙ sym (U.on_other s e k p)
 
     final_step : (s : Stand) (e : Event) (is : List (Told B)) → U.Kept s → (c d : Bool) → concerns i e ≡ c → same (figure s) (figure (after m s e)) ≡ d
-        → final (view s) (cond c (called e (figure (after m s e)) ∷ []) (cond d [] (turned (figure (after m s e)) ∷ [])) ++ is) ≡ final (view (after m s e)) is
+        → final (view s) ((if c then called e (figure (after m s e)) ∷ [] else (if d then [] else turned (figure (after m s e)) ∷ [])) ++ is) ≡ final (view (after m s e)) is
     final_step s e is k true d p q = ap (λ (v : View B). final v is) (sym (U.on_call s e k p))
     final_step s e is k false true p q = ap (λ (v : View B). final v is) (stays s e k p q)
     final_step s e is k false false p q = ap (λ (v : View B). final v is) (sym (U.on_other s e k p))
@@ -51,8 +51,8 @@ module _ {B : Type 0} (figure : Stand → B) (same : B → B → Bool) (m : Mean
         final_is (after m s e) es (U.keeps s e k) ∙ sym (final_step s e (trace figure same m i (after m s e) es) k (concerns i e) (same (figure s) (figure (after m s e))) refl refl)
 
     lived_step : (s : Stand) (e : Event) (is : List (Told B)) → U.Kept s → (c d : Bool) → concerns i e ≡ c → same (figure s) (figure (after m s e)) ≡ d
-        → lived (view s) (cond c (called e (figure (after m s e)) ∷ []) (cond d [] (turned (figure (after m s e)) ∷ [])) ++ is)
-        ≡ cond c ((reply m s e, (view (after m s e)).own) ∷ []) [] ++ lived (view (after m s e)) is
+        → lived (view s) ((if c then called e (figure (after m s e)) ∷ [] else (if d then [] else turned (figure (after m s e)) ∷ [])) ++ is)
+        ≡ (if c then (reply m s e, (view (after m s e)).own) ∷ [] else []) ++ lived (view (after m s e)) is
     lived_step s e is k true d p q = rw (U.on_answer s e k p, U.on_call s e k p)
     lived_step s e is k false true p q = ap (λ (v : View B). lived v is) (stays s e k p q)
     lived_step s e is k false false p q = ap (λ (v : View B). lived v is) (sym (U.on_other s e k p))
@@ -60,7 +60,7 @@ module _ {B : Type 0} (figure : Stand → B) (same : B → B → Bool) (m : Mean
     lived_is : (s : Stand) (es : List Event) → U.Kept s → observed m i (λ t. (view t).own) s es ≡ lived (view s) (trace figure same m i s es)
     lived_is s [] k = refl
     lived_is s (e ∷ es) k =
-        ap (λ (r : List (Reply × Book)). cond (concerns i e) ((reply m s e, (view (after m s e)).own) ∷ []) [] ++ r) (lived_is (after m s e) es (U.keeps s e k))
+        ap (λ (r : List (Reply × Book)). (if concerns i e then (reply m s e, (view (after m s e)).own) ∷ [] else []) ++ r) (lived_is (after m s e) es (U.keeps s e k))
         ∙ sym (lived_step s e (trace figure same m i (after m s e) es) k (concerns i e) (same (figure s) (figure (after m s e))) refl refl)
 
     -- from two stands that look the same to the holder
@@ -74,7 +74,7 @@ module _ {B : Type 0} (figure : Stand → B) (same : B → B → Bool) (m : Mean
 -- the answers alone
 module _ (m : Meaning) (i : ℕ) (own : Stand → Book) where
   firsts : (e : Event) (s : Stand) (b : Bool) (xs : List (Reply × Book)) (os : List Reply) → map (λ (x : Reply × Book). x.0) xs ≡ os
-      → map (λ (x : Reply × Book). x.0) (cond b ((reply m s e, own (after m s e)) ∷ []) [] ++ xs) ≡ cond b (reply m s e ∷ []) [] ++ os
+      → map (λ (x : Reply × Book). x.0) ((if b then (reply m s e, own (after m s e)) ∷ [] else []) ++ xs) ≡ (if b then reply m s e ∷ [] else []) ++ os
   firsts e s true xs os p = ap (λ (l : List Reply). reply m s e ∷ l) p
   firsts e s false xs os p = p
 
@@ -96,8 +96,8 @@ module _ (m : Meaning) where
       → own_replies i (es ++ fs) (replies m s (es ++ fs)) ≡ own_replies i es (replies m s es) ++ own_replies i fs (replies m (run m s es) fs)
   own_append i s [] fs = refl
   own_append i s (e ∷ es) fs =
-      ap (λ (l : List Reply). cond (concerns i e) (reply m s e ∷ []) [] ++ l) (own_append i (after m s e) es fs)
-      ∙ sym (append_assoc (cond (concerns i e) (reply m s e ∷ []) []) _ _)
+      ap (λ (l : List Reply). (if concerns i e then reply m s e ∷ [] else []) ++ l) (own_append i (after m s e) es fs)
+      ∙ sym (append_assoc (if concerns i e then reply m s e ∷ [] else []) _ _)
 
   pub length_replies : (s : Stand) (es : List Event) → length (replies m s es) ≡ length es
   length_replies s [] = refl

@@ -3,12 +3,12 @@
 -- lodged_cash, drawn_cash, lodged_lots, drawn_lots: what a call lodges or draws. lacking: obligation less available, where that is positive.
 -- own_margins: the house's obligation without the cover. Accounted, Covered: what holds of cash, lots and cover.
 -- Isolation: the law, for every list of calls from an accepted opening, on every model that means m.
-use Rattle.std.specs.Prelude.{◌≡◌, ℕ, suc, ◌+◌, ◌-◌, ◌<◌, ◌≤◌, cond, List, sum_by, ◌==◌, slice_index, slice_index_or}
+use Rattle.std.specs.Prelude.{◌≡◌, ℕ, suc, ◌+◌, ◌-◌, ◌<◌, ◌≤◌, if◌then◌else◌, List, sum_by, ◌==◌, slice_index, slice_index_or}
 use Rattle.models.specs.Meaning.{Meaning}
 use Rattle.tables.specs.Books.{Book, no_book, standing_of}
 use Rattle.margins.specs.Figures.{figures_of}
 use Rattle.rules.specs.declared.call.AccountCall.{AccountCall}
-use Rattle.rules.specs.declared.call.AccountCall.TheVariants.{Trade, End, LodgeCash, DrawCash, LodgeSecurity, DrawSecurity, Show}
+use Rattle.rules.specs.declared.call.AccountCall.TheVariants.{LodgeCash, DrawCash, LodgeSecurity, DrawSecurity}
 use Rattle.rules.specs.declared.call.Event.{Event}
 use Rattle.rules.specs.declared.call.Reply.{Reply}
 use Rattle.rules.specs.Stands.{Stand, books_in, cover_of}
@@ -26,41 +26,21 @@ abbrev pub book_of : Stand → ℕ → Book
 book_of s i = slice_index_or (books_in s) i no_book
 
 abbrev pub lodged_cash : AccountCall → ℕ
-lodged_cash (Trade t) = 0
-lodged_cash (End n) = 0
 lodged_cash (LodgeCash x) = x
-lodged_cash (DrawCash x) = 0
-lodged_cash (LodgeSecurity s n) = 0
-lodged_cash (DrawSecurity s n) = 0
-lodged_cash Show = 0
+lodged_cash _ = 0
 
 abbrev pub drawn_cash : AccountCall → ℕ
-drawn_cash (Trade t) = 0
-drawn_cash (End n) = 0
-drawn_cash (LodgeCash x) = 0
 drawn_cash (DrawCash x) = x
-drawn_cash (LodgeSecurity s n) = 0
-drawn_cash (DrawSecurity s n) = 0
-drawn_cash Show = 0
+drawn_cash _ = 0
 
 -- lots of security which
 abbrev pub lodged_lots : ℕ → AccountCall → ℕ
-lodged_lots which (Trade t) = 0
-lodged_lots which (End n) = 0
-lodged_lots which (LodgeCash x) = 0
-lodged_lots which (DrawCash x) = 0
-lodged_lots which (LodgeSecurity s n) = cond (s == which) n 0
-lodged_lots which (DrawSecurity s n) = 0
-lodged_lots which Show = 0
+lodged_lots which (LodgeSecurity s n) = if s == which then n else 0
+lodged_lots which _ = 0
 
 abbrev pub drawn_lots : ℕ → AccountCall → ℕ
-drawn_lots which (Trade t) = 0
-drawn_lots which (End n) = 0
-drawn_lots which (LodgeCash x) = 0
-drawn_lots which (DrawCash x) = 0
-drawn_lots which (LodgeSecurity s n) = 0
-drawn_lots which (DrawSecurity s n) = cond (s == which) n 0
-drawn_lots which Show = 0
+drawn_lots which (DrawSecurity s n) = if s == which then n else 0
+drawn_lots which _ = 0
 
 abbrev pub lacking : Book → ℕ
 lacking b = b.row.obligation - b.row.available

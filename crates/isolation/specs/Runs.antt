@@ -2,7 +2,7 @@
 -- after, reply: what an event makes of a stand, and what it is answered. run, replies: the same of a list of events.
 -- opened: the stand that an accepted opening with n accounts in a month leaves.
 -- accepted: what the accepted calls of a list move for one account, by some measure of a call.
-use Rattle.std.specs.Prelude.{ℕ, ◌+◌, cond, List, [], ◌∷◌, ◌==◌}
+use Rattle.std.specs.Prelude.{ℕ, ◌+◌, if◌then◌else◌, List, [], ◌∷◌, ◌==◌}
 use Rattle.models.specs.Meaning.{Meaning}
 use Rattle.refusals.specs.declared.refusal.Refusal.TheVariants.{Tables}
 use Rattle.refusals.specs.Refusals.{number_of}
@@ -54,7 +54,7 @@ opened month n = standing (opened_market month) (opened_rows n) (opened_trades n
 
 -- what a call of account i moves; a market call moves nothing
 abbrev pub moved_by : (AccountCall → ℕ) → ℕ → Call → ℕ
-moved_by f i (Account c) = cond (c.account == i) (f c.call) 0
+moved_by f i (Account c) = if c.account == i then f c.call else 0
 moved_by f i (Market c) = 0
 
 abbrev pub moved : (AccountCall → ℕ) → ℕ → Event → ℕ
@@ -65,4 +65,4 @@ moved f i (WrongTables c) = 0
 abbrev pub accepted : (AccountCall → ℕ) → ℕ → List Event → List Reply → ℕ
 accepted f i [] os = 0
 accepted f i (e ∷ es) [] = 0
-accepted f i (e ∷ es) (o ∷ os) = cond (reply_number o == 0) (moved f i e) 0 + accepted f i es os
+accepted f i (e ∷ es) (o ∷ os) = (if reply_number o == 0 then moved f i e else 0) + accepted f i es os

@@ -5,7 +5,7 @@
 -- Told, trace: the events that concern a holder, each with the figure after it; and between them each change of the figure.
 -- observed: the answer to each event that concerns a holder, with the holder's record and places after it.
 -- own_replies: of the answers to a list of events, those to the events that concern a holder.
-use Rattle.std.specs.Prelude.{ℕ, suc, Bool, true, cond, List, [], ◌∷◌, ◌++◌, ◌==◌, nat_eq, slice_index_or}
+use Rattle.std.specs.Prelude.{ℕ, suc, Bool, true, if◌then◌else◌, List, [], ◌∷◌, ◌++◌, ◌==◌, nat_eq, slice_index_or}
 use Rattle.std.specs.Bool.{beq}
 use Rattle.models.specs.Meaning.{Meaning}
 use Rattle.tables.specs.Books.{Book, no_book}
@@ -49,8 +49,9 @@ pub data Told (B : Type 0) : Type 0 where
 module _ {B : Type 0} (figure : Stand → B) (same : B → B → Bool) (m : Meaning) (i : ℕ) where
   abbrev pub told : Stand → Event → List (Told B)
   told s e =
-      cond (concerns i e) (called e (figure (after m s e)) ∷ [])
-      (cond (same (figure s) (figure (after m s e))) [] (turned (figure (after m s e)) ∷ []))
+      if concerns i e
+      then called e (figure (after m s e)) ∷ []
+      else (if same (figure s) (figure (after m s e)) then [] else turned (figure (after m s e)) ∷ [])
 
   abbrev pub trace : Stand → List Event → List (Told B)
   trace s [] = []
@@ -66,9 +67,9 @@ house_trace m s es = trace cover_of nat_eq m 0 s es
 -- what account i observes; own reads its record and places off a stand
 abbrev pub observed : Meaning → ℕ → (Stand → Book) → Stand → List Event → List (Reply × Book)
 observed m i own s [] = []
-observed m i own s (e ∷ es) = cond (concerns i e) ((reply m s e, own (after m s e)) ∷ []) [] ++ observed m i own (after m s e) es
+observed m i own s (e ∷ es) = (if concerns i e then (reply m s e, own (after m s e)) ∷ [] else []) ++ observed m i own (after m s e) es
 
 abbrev pub own_replies : ℕ → List Event → List Reply → List Reply
 own_replies i [] os = []
 own_replies i (e ∷ es) [] = []
-own_replies i (e ∷ es) (o ∷ os) = cond (concerns i e) (o ∷ []) [] ++ own_replies i es os
+own_replies i (e ∷ es) (o ∷ os) = (if concerns i e then o ∷ [] else []) ++ own_replies i es os

@@ -3,8 +3,7 @@ ghost use Rattle.isolation.specs.Examples.{Examples};
 
 // Two lists that differ in the others' calls and agree for one constituent; one in which a restriction that goes and comes releases it;
 // and one without these two changes, in which it is not released.
-pub fn isolation_examples() -> u8
+#[tactic(auto, using(crate::proofs::Worked::examples))]
+pub fn isolation_examples()
     ensures { Examples }
-{
-    0
-}
+{}

@@ -1,20 +1,26 @@
--- Where the search for the knots next to a residual ends. Assumes nothing.
-use Rattle.std.proofs.Common.{◌≡◌, ℕ, zero, suc, ◌+◌, ◌-◌, ◌<◌, ◌≤◌, List, [], ◌∷◌, get_or, sym, refl, ap, ◌∙◌, subst, ⊎_elim, arith, eq-eqb, ne_eqb}
-use borrow.Author.Tests.{lt-leb}
-use Rattle.knots.specs.Knots.{knots, knot, climb, low_place, high_place, Neighbours, neighbours_are}
+-- Where the knots next to a residual are found. Assumes nothing.
+use Rattle.std.proofs.Common.{◌≡◌, ℕ, ◌+◌, ◌-◌, ◌<◌, ◌≤◌, sym, ap, ◌∙◌, subst, ⊎_elim, arith, eq-eqb, ne_eqb, true, false, leb, leb-true, leb-false}
+use Rattle.std.specs.List.Sorted.{IsPartitionedBy, IsPartitionPoint}
+use Rattle.std.proofs.lemmas.Bool.{cases_lt}
+use Rattle.std.proofs.lemmas.List.Sorted.{IsPartitionedBy-leb, IsNonDecreasingBy-from_default}
+use Rattle.knots.specs.Knots.{knots, knot, low_place, high_place, low_last, Neighbours, neighbours_are}
+use Rattle.knots.specs.Rising.{climbs, knot_most, one_last}
 
-climb_stays : (f p m : ℕ) → m < knot (p + 1) → climb f p m ≡ p
-climb_stays zero p m h = refl
-climb_stays (suc f) p m h = simp (lt-leb (knot (p + 1)) m h)
+-- what halving asks of the knots
+pub parted : (m : ℕ) → IsPartitionedBy (λ k. leb k m) knots
+parted m = IsPartitionedBy-leb (λ k. k) knots m (IsNonDecreasingBy-from_default (λ k. k) knots 0 (λ i j h lt. climbs i j h (omega arith)))
 
-climb_none : (p m : ℕ) → 11 ≤ p → climb (11 - p) p m ≡ p
-climb_none p m h = let e : 11 - p ≡ 0 = omega arith in rw e
-
-pub low_top : (p m : ℕ) → climb (11 - p) p m ≡ low_place m → 11 ≤ p → p ≡ low_place m
-low_top p m inv h = sym (climb_none p m h) ∙ inv
-
-pub low_stop : (p m : ℕ) → climb (11 - p) p m ≡ low_place m → m < knot (p + 1) → p ≡ low_place m
-low_stop p m inv h = sym (climb_stays (11 - p) p m h) ∙ inv
+-- what it finds is past the last place whose knot is not past m
+pub last_found : (m r : ℕ) → IsPartitionPoint (λ k. leb k m ≡ true) (λ k. leb k m ≡ false) knots r → r ≤ 12 → (1 ≤ r) × (r - 1 ≡ low_place m)
+last_found m r h most =
+    let some : 1 ≤ r =
+    ⊎_elim (λ (none : r < 1). absurd (let out : m < 0 = leb-false 0 m (h.1 0 0 (omega arith) (omega arith)) in omega arith)) (λ g. g) (cases_lt r 1)
+    in
+    let at : knot (r - 1) ≤ m = leb-true (knot (r - 1)) m (h.0 (r - 1) 0 (omega arith) (omega arith)) in
+    let next : r - 1 < 11 → m < knot ((r - 1) + 1) =
+    λ lt. let e : (r - 1) + 1 ≡ r = omega arith in subst (λ (z : ℕ). m < knot z) (sym e) (leb-false (knot r) m (h.1 r 0 (omega arith) (omega arith)))
+    in
+    (some, one_last m (r - 1) (low_place m) (omega arith, at, next) (low_last m))
 
 as_places : (m p q : ℕ) → m ≤ 120 → p ≡ low_place m → q ≡ high_place m → Neighbours m p q
 as_places m p q most e h =
@@ -31,18 +37,6 @@ next_place m p most e k =
     let t = ne_eqb (knot (low_place m)) m (λ s. k (ap knot e ∙ s)) in
     let h : p + 1 ≡ high_place m = simp t (ap (λ z. z + 1) e) in
     (as_places m p (p + 1) most e h, h)
-
-abbrev AllMost : ℕ → List ℕ → Type 0
-AllMost n [] = Unit {0}
-AllMost n (x ∷ xs) = (x ≤ n) × AllMost n xs
-
-at_most : (n : ℕ) (xs : List ℕ) → AllMost n xs → (k : ℕ) → get_or xs k 0 ≤ n
-at_most n [] h k = omega arith
-at_most n (x ∷ xs) h zero = h.0
-at_most n (x ∷ xs) h (suc k) = at_most n xs h.1 k
-
-pub knot_most : (k : ℕ) → knot k ≤ 120
-knot_most = at_most 120 knots (search arith)
 
 pub parts_of : (m p q : ℕ) → Neighbours m p q → (p ≡ q → ⊥) → (m - knot p ≤ knot q - knot p) × (1 ≤ knot q - knot p) × (knot q - knot p ≤ 120)
 parts_of m p q n ne =

@@ -1,11 +1,13 @@
 -- The model that three tables of numbers at the knots are. Assumes nothing.
---   row_at        the place of a benchmark's first knot among the rates and among the tick values
---   number_at     the rate or tick value of a residual
---   shock_at      the shock of a residual in a scenario
---   knot_table    the meaning of the tables
---   KnotsSound    the tables that may be a knot model: 48 cells a set, shocks up to 20,000 from 0
-use Rattle.std.specs.Prelude.{ℕ, ◌+◌, ◌*◌, cond, ◌&&◌, List, ℤ, pos, ◌*ℤ◌, nat_lt, slice_index, slice_index_or, unsigned_abs}
+--   row_at               the place of a benchmark's first knot among the rates and among the tick values
+--   number_at            the rate or tick value of a residual, in a row
+--   shock_at             the shock of a residual in a scenario
+--   size_at, change_at   the rate or tick value of a set, benchmark and residual, and the change there in a scenario
+--   knot_table           the meaning of the tables
+--   KnotsSound           the tables that may be a knot model: 48 cells a set, shocks up to 20,000 from 0
+use Rattle.std.specs.Prelude.{ℕ, ◌+◌, ◌*◌, ◌&&◌, List, ℤ, pos, ◌*ℤ◌, nat_lt, slice_index, slice_index_or, unsigned_abs, if◌then◌else◌}
 use Rattle.models.specs.Meaning.{Meaning, within}
+use Rattle.models.specs.Tables.{Tables}
 use Rattle.models.specs.Sound.{Sound}
 use Rattle.knots.specs.Knots.{low_place, high_place}
 use Rattle.knots.specs.Interpolation.{floor, value_at}
@@ -23,17 +25,20 @@ abbrev pub shock_at : List ℤ → ℕ → ℕ → ℕ → ℕ → ℤ
 shock_at xs base runs j m =
     value_at (slice_index_or xs ((base + low_place m) * runs + j) (pos 0)) (slice_index_or xs ((base + high_place m) * runs + j) (pos 0)) m (low_place m) (high_place m)
 
-abbrev pub knot_table : ℕ → ℕ → List ℕ → List ℕ → List ℤ → Meaning
-knot_table count runs rs ts cs = record {
-  sets = count;
-  scenarios = runs;
-  rate = λ s b r. cond (within count s b r) (unsigned_abs (number_at rs (row_at s b) r)) 0;
-  tick = λ s b r. cond (within count s b r) (unsigned_abs (number_at ts (row_at s b) r)) 0;
-  change = λ s b r j.
-      cond (within count s b r && nat_lt j runs)
-      (floor (pos (unsigned_abs (number_at ts (row_at s b) r)) *ℤ shock_at cs (row_at s b) runs j r) 1000)
-      (pos 0);
+abbrev pub size_at : List ℕ → ℕ → ℕ → ℕ → ℕ
+size_at xs s b r = unsigned_abs (number_at xs (row_at s b) r)
+
+abbrev pub change_at : Tables → ℕ → ℕ → ℕ → ℕ → ℤ
+change_at t s b r j = floor (pos (size_at t.ticks s b r) *ℤ shock_at t.changes (row_at s b) t.scenarios j r) 1000
+
+abbrev pub knot_table : Tables → Meaning
+knot_table t = record {
+  sets = t.sets;
+  scenarios = t.scenarios;
+  rate = λ s b r. if within t.sets s b r then size_at t.rates s b r else 0;
+  tick = λ s b r. if within t.sets s b r then size_at t.ticks s b r else 0;
+  change = λ s b r j. if within t.sets s b r && nat_lt j t.scenarios then change_at t s b r j else pos 0;
 }
 
-abbrev pub KnotsSound : ℕ → ℕ → List ℕ → List ℕ → List ℤ → Type 0
-KnotsSound sets scenarios rs ts cs = Sound 48 20000 sets scenarios rs ts cs
+abbrev pub KnotsSound : Tables → Type 0
+KnotsSound t = Sound 48 20000 t

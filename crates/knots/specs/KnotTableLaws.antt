@@ -6,6 +6,7 @@ use Rattle.std.specs.Prelude.{◌≡◌, ℕ, ◌+◌, ◌*◌, ◌≤◌, true,
 use Rattle.std.proofs.Common.{arith, le-ltb, ltb-true}
 use Rattle.std.proofs.lemmas.Bool.{and_left, and_right, cond-false, and_parts}
 use Rattle.models.specs.Meaning.{Lawful, within}
+use Rattle.models.specs.Tables.{Tables}
 use Rattle.models.specs.SoundLaws.{rate_bound, tick_bound, change_bound}
 use Rattle.models.specs.MeaningLaws.{masked_most, masked_size, not_within}
 use Rattle.knots.specs.Knots.{low_place, high_place, neighbours_are}
@@ -35,20 +36,20 @@ pub shock_most : (xs : List ℤ) (base runs j m : ℕ) → ((k : ℕ) → unsign
 shock_most xs base runs j m ok h =
     value_most (slice_index_or xs ((base + low_place m) * runs + j) (pos 0)) (slice_index_or xs ((base + high_place m) * runs + j) (pos 0)) m _ _ (neighbours_are m h) 20000 (ok _) (ok _)
 
-pub knot_table_lawful : (count runs : ℕ) (rs ts : List ℕ) (cs : List ℤ) → KnotsSound count runs rs ts cs → Lawful (knot_table count runs rs ts cs)
-knot_table_lawful count runs rs ts cs ok = record {
+pub knot_table_lawful : (t : Tables) → KnotsSound t → Lawful (knot_table t)
+knot_table_lawful t ok = record {
   some_set = ok.0.0;
   few_sets = ok.0.1;
   some_scenario = ok.0.2;
   few_scenarios = ok.0.3;
-  rate_most = λ s b r. masked_most (within count s b r) _ 200000 (λ t. number_most rs (row_at s b) r 200000 (rate_bound 20000 rs ts cs ok.2) (few count s b r t));
-  tick_most = λ s b r. masked_most (within count s b r) _ 100000 (λ t. number_most ts (row_at s b) r 100000 (tick_bound 20000 rs ts cs ok.2) (few count s b r t));
+  rate_most = λ s b r. masked_most (within t.sets s b r) _ 200000 (λ w. number_most t.rates (row_at s b) r 200000 (rate_bound 20000 t ok.2) (few t.sets s b r w));
+  tick_most = λ s b r. masked_most (within t.sets s b r) _ 100000 (λ w. number_most t.ticks (row_at s b) r 100000 (tick_bound 20000 t ok.2) (few t.sets s b r w));
   change_most = λ s b r j.
-      masked_size (within count s b r && nat_lt j runs) _ 2000000
-      (λ t. let f = few count s b r (and_parts (within count s b r) (nat_lt j runs) t).0 in
-      thousandth_most _ (product_most _ _ (number_most ts (row_at s b) r 100000 (tick_bound 20000 rs ts cs ok.2) f) (shock_most cs (row_at s b) runs j r (change_bound 20000 rs ts cs ok.2) f)));
-  rate_outside = λ s b r h. cond-false _ _ _ (not_within count s b r h);
-  tick_outside = λ s b r h. cond-false _ _ _ (not_within count s b r h);
-  change_outside = λ s b r j h. cond-false _ _ _ (and_left _ _ (not_within count s b r h));
-  change_past = λ s b r j h. cond-false _ _ _ (and_right (within count s b r) _ (le-ltb j runs h));
+      masked_size (within t.sets s b r && nat_lt j t.scenarios) _ 2000000
+      (λ w. let f = few t.sets s b r (and_parts (within t.sets s b r) (nat_lt j t.scenarios) w).0 in
+      thousandth_most _ (product_most _ _ (number_most t.ticks (row_at s b) r 100000 (tick_bound 20000 t ok.2) f) (shock_most t.changes (row_at s b) t.scenarios j r (change_bound 20000 t ok.2) f)));
+  rate_outside = λ s b r h. cond-false _ _ _ (not_within t.sets s b r h);
+  tick_outside = λ s b r h. cond-false _ _ _ (not_within t.sets s b r h);
+  change_outside = λ s b r j h. cond-false _ _ _ (and_left _ _ (not_within t.sets s b r h));
+  change_past = λ s b r j h. cond-false _ _ _ (and_right (within t.sets s b r) _ (le-ltb j t.scenarios h));
 }

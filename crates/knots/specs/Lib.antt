@@ -4,4 +4,6 @@ pub mod InterpolationLaws
 pub mod KnotTable
 pub mod KnotTableLaws
 pub mod KnotLaw
-pub mod Shown
+pub mod Rising
+pub mod Floors
+pub mod KnotLaws

@@ -4,6 +4,14 @@ ghost use Rattle.knots.specs.Knots.{Neighbours, low_place, high_place};
 
 pub const KNOTS: [u32; 12] = [0, 1, 3, 6, 9, 12, 24, 36, 48, 60, 84, 120];
 
+// The place of the last knot that is not past a residual.
+fn last_knot(residual: u32) -> usize
+    ensures value { result ≡ low_place residual }
+    ensures most { result ≤ 11 }
+{
+    KNOTS.partition_point(|knot| *knot <= residual) - 1
+}
+
 // The places of the knots next to a residual, one place twice where it is a knot.
 pub(crate) fn neighbours(residual: u32) -> (usize, usize)
     requires { residual ≤ 120 }
@@ -11,10 +19,7 @@ pub(crate) fn neighbours(residual: u32) -> (usize, usize)
     ensures low { result.0 ≡ low_place residual }
     ensures high { result.1 ≡ high_place residual }
 {
-    let mut p = 0;
-    while p < 11 && KNOTS[p + 1] <= residual {
-        p += 1;
-    }
+    let p = last_knot(residual);
     if KNOTS[p] == residual {
         (p, p)
     } else {

@@ -1,7 +1,6 @@
 // The knot model: a margin model whose numbers stand at twelve residuals only.
 #![tactic(auto)]
 
-pub mod check;
 pub mod interpolation;
 pub mod knots;
 pub mod model;

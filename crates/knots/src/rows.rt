@@ -1,4 +1,5 @@
-// Reads a residual's number out of a row of knots.
+// Reads a residual's number out of a row of knots. Numbers and shocks have a reader each: a closure for the place of a knot would
+// hide the two reads and no more.
 ghost use Rattle.std.specs.Prelude.{◌≡◌, ℕ, ◌+◌, ◌*◌, ◌<◌, ◌≤◌, length, pos, slice_index, slice_index_or, unsigned_abs};
 ghost use Rattle.knots.specs.KnotTable.{number_at, shock_at};
 

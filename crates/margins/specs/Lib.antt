@@ -4,3 +4,4 @@ pub mod Figures
 pub mod Flags
 pub mod Settled
 pub mod Worked
+pub mod Printing

@@ -3,9 +3,9 @@ ghost use Rattle.std.specs.Prelude.{◌≡◌, ◌≤◌};
 ghost use Rattle.margins.specs.Charges.{level_of, levels_of, level_percent, concentration_of, volatility_of};
 
 use market::state::Averages;
-use tables::row::Levels;
+use tables::row::{Levels, NO_LEVELS};
 
-// The level after a value and its published average are known.
+// The level after a value and its published average are known. It is a number, as in the rows that C callers lend.
 pub fn next_level(level: u8, value: u64, average: u64) -> u8
     ensures value { result ≡ level_of level value average }
     ensures bound { result ≤ 2 }
@@ -31,10 +31,7 @@ pub fn next_levels(averages: Option<Averages>, levels: Levels, initial: u64, gro
     ensures bound { (result.initial ≤ 2) × (result.gross ≤ 2) }
 {
     match averages {
-        None => Levels {
-            initial: 0,
-            gross: 0,
-        },
+        None => NO_LEVELS,
         Some(given) => Levels {
             initial: next_level(levels.initial, initial, given.initial),
             gross: next_level(levels.gross, gross, given.gross),
@@ -47,12 +44,10 @@ fn percent_of_level(level: u8) -> u128
     ensures value { result ≡ level_percent level }
     ensures bound { result ≤ 20 }
 {
-    if level == 2 {
-        20
-    } else if level == 1 {
-        15
-    } else {
-        0
+    match level {
+        2 => 20,
+        1 => 15,
+        _ => 0,
     }
 }
 

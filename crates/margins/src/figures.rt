@@ -1,5 +1,8 @@
 // The figures of one account.
+ghost use Rattle.std.specs.Prelude.{Some};
+
 use risk::figures::RiskFigures;
+use std::fmt;
 use tables::row::Levels;
 
 pub mod work;
@@ -39,4 +42,40 @@ pub struct Figures {
     pub obligation: u64,
     pub available: u64,
     pub shortfall: u64,
+}
+
+impl fmt::Display for BenchmarkFigures {
+    ghost use Rattle.margins.specs.Printing.{benchmark_text};
+
+    ghost output = { λ f. Some (benchmark_text f) };
+
+    fn fmt<W: fmt::Write>(&self, f: &mut fmt::Formatter<W>) -> fmt::Result {
+        write!(
+            f,
+            "{} {} {} {} {} {}",
+            self.trades, self.gross, self.risk, self.mark, self.loss, self.credit
+        )
+    }
+}
+
+// The levels, the charges and the sums, without the two benchmarks.
+impl fmt::Display for FamilyFigures {
+    ghost use Rattle.margins.specs.Printing.{family_text};
+
+    ghost output = { λ f. Some (family_text f) };
+
+    fn fmt<W: fmt::Write>(&self, f: &mut fmt::Formatter<W>) -> fmt::Result {
+        write!(
+            f,
+            "{} {} {} {} {} {} {} {}",
+            self.initial,
+            self.gross,
+            self.levels.initial,
+            self.levels.gross,
+            self.volatility,
+            self.concentration,
+            self.obligation,
+            self.credit
+        )
+    }
 }

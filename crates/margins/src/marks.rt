@@ -1,61 +1,41 @@
 // What trades are worth at the current rates.
-ghost use Rattle.std.specs.Prelude.{◌≡◌, ◌*◌, ◌≤◌, length, unsigned_abs};
-ghost use Rattle.risk.specs.Groups.{Standing, TradeFits};
-ghost use Rattle.risk.specs.Signs.{negated_for_receive};
-ghost use Rattle.margins.specs.Marks.{worth_of, mark_of, marks_of, credit_of};
+ghost use Rattle.std.specs.Prelude.{◌≡◌, ◌*◌, ◌≤◌, length, pos, ◌*ℤ◌, unsigned_abs};
+ghost use Rattle.margins.specs.Marks.{mark_of, marks_of, credit_of};
 
-use market::day::Day;
 use models::model::MarginModel;
 use risk::money::gain;
+use risk::quotes::Quotes;
+use risk::trade::Trade;
 use tables::codes::Side;
-use tables::row::TradeRow;
+use tables::standing::StandingTrades;
 
-// What a notional gains between a fixed rate and the current rate, in thousandths of a paisa.
-fn worth(notional: u32, rate: u32, fixed: u32, tick: u32) -> i64
-    requires { (notional ≤ 1000000) × ((rate ≤ 200000) × ((fixed ≤ 200000) × (tick ≤ 100000))) }
-    ensures value { result ≡ worth_of notional rate fixed tick }
+// What a flow counts at a tick value, in thousandths of a paisa.
+fn worth(flow: i64, tick: u32) -> i64
+    requires { (unsigned_abs flow ≤ 200000000000) × (tick ≤ 100000) }
+    ensures value { result ≡ flow *ℤ pos tick }
     ensures bound { unsigned_abs result ≤ 20000000000000000 }
 {
-    notional as i64 * (rate as i64 - fixed as i64) * tick as i64
-}
-
-// A worth as the side of a trade has it.
-fn for_side(side: Side, worth: i64) -> i64
-    requires { unsigned_abs worth ≤ 20000000000000000 }
-    ensures value { result ≡ negated_for_receive side worth }
-    ensures bound { unsigned_abs result ≤ 20000000000000000 }
-{
-    match side {
-        Side::Pay => worth,
-        Side::Receive => -worth,
-    }
+    flow * tick as i64
 }
 
 // The mark of a trade, in paise.
-fn mark<M: MarginModel>(model: &M, day: Day, trade: &TradeRow) -> i64
-    requires { TradeFits trade.now }
-    ensures value { result ≡ mark_of (M.meaning model.now) day trade.now }
+fn mark<M: MarginModel>(quotes: &Quotes<M>, trade: Trade) -> i64
+    ensures value { result ≡ mark_of (M.meaning quotes.now.model.now) quotes.now.day trade.entry.row.now }
     ensures bound { unsigned_abs result ≤ 20000000000000 }
 {
-    let residual = day.residual(trade);
-    let rate = model.rate(day.set, trade.benchmark as u32, residual);
-    let tick = model.tick(day.set, trade.benchmark as u32, residual);
-    for_side(
-        Side::of(trade.side),
-        worth(trade.notional, rate, trade.rate, tick),
-    )
-    .div_euclid(1000)
+    let gap = quotes.rate(trade.row) as i32 - trade.row.rate as i32;
+    worth(trade.flow(Side::Receive, gap), quotes.tick(trade.row)).div_euclid(1000)
 }
 
-// The marks of the trades, added up.
-pub(crate) fn mark_to_market<M: MarginModel>(model: &M, day: Day, trades: &[TradeRow]) -> i64
-    requires { Standing trades.now }
-    ensures value { result ≡ marks_of (M.meaning model.now) day trades.now }
-    ensures bound { unsigned_abs result ≤ 20000000000000 * length trades.now }
+// The marks of the trades, added up. A `for`: nothing bounds the signed sum of a chain.
+#[tactic(auto, unfolding(crate::specs::Marks::marks_of))]
+pub(crate) fn mark_to_market<M: MarginModel>(quotes: &Quotes<M>, trades: StandingTrades) -> i64
+    ensures value { result ≡ marks_of (M.meaning quotes.now.model.now) quotes.now.day trades.entry.trades.now }
+    ensures bound { unsigned_abs result ≤ 20000000000000 * length trades.entry.trades.now }
 {
     let mut sum = 0i64;
-    for trade in trades {
-        sum += mark(model, day, trade);
+    for trade in trades.rows() {
+        sum += mark(quotes, Trade::new(trade));
     }
     sum
 }

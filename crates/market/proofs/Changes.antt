@@ -7,8 +7,7 @@ use Rattle.tables.specs.declared.codes.Family.{Family}
 use Rattle.tables.specs.declared.codes.Family.TheVariants.{Overnight, Forward}
 use Rattle.tables.specs.Codes.{family_of}
 use Rattle.tables.specs.Limits.{security_keeps}
-use Rattle.tables.specs.Lists.{all_by}
-use Rattle.tables.proofs.Alls.{all_by_set}
+use Rattle.tables.proofs.Alls.{list_all_set}
 use Rattle.market.specs.declared.call.MarketCall.{MarketCall}
 use Rattle.market.specs.declared.call.MarketCall.TheVariants.{Set, Price, StepUp, Averages, Thresholds, Volatility, Close, Month}
 use Rattle.market.specs.declared.call.Quote.{Quote}
@@ -17,45 +16,9 @@ use Rattle.market.specs.declared.state.Thresholds.{Thresholds as Marks}
 use Rattle.market.specs.declared.state.FamilyState.{FamilyState}
 use Rattle.market.specs.declared.state.MarketState.{MarketState}
 use Rattle.market.specs.States.{averages_keep, thresholds_keep, family_keeps, family_state, market_keeps}
+use Rattle.market.proofs.Facts.{family_parts, family_from, market_parts, market_from}
 use Rattle.market.specs.Volatility.{charged, exceeding}
 use Rattle.market.specs.Calls.{with_family, with_averages, with_thresholds, checked_by, closed_family, quoted, quote_fits, slot_fits, market_questions, market_changed, can_change}
-
--- the limits of a family and of a market, part by part
-record FamilyParts (f : FamilyState) : Type 0 where
-  volatility : leb f.volatility 1000 ≡ true
-  slot : leb f.slot 4 ≡ true
-  checks : leb f.checks 4 ≡ true
-  averages : averages_keep f.averages ≡ true
-  thresholds : thresholds_keep f.thresholds ≡ true
-
-family_parts : (f : FamilyState) → family_keeps f ≡ true → FamilyParts f
-family_parts f h =
-    let a = and_parts (leb f.volatility 1000) _ h in
-    let b = and_parts (leb f.slot 4) _ a.1 in
-    let c = and_parts (leb f.checks 4) _ b.1 in
-    let d = and_parts (averages_keep f.averages) (thresholds_keep f.thresholds) c.1 in
-    record { volatility = a.0; slot = b.0; checks = c.0; averages = d.0; thresholds = d.1 }
-
-family_from : (f : FamilyState) → FamilyParts f → family_keeps f ≡ true
-family_from f p = and_from _ _ p.volatility (and_from _ _ p.slot (and_from _ _ p.checks (and_from _ _ p.averages p.thresholds)))
-
-record MarketParts (k : MarketState) : Type 0 where
-  month : leb k.day.month 1199 ≡ true
-  percent : leb k.percent 100 ≡ true
-  overnight : family_keeps k.overnight ≡ true
-  forward : family_keeps k.forward ≡ true
-  securities : all_by security_keeps k.securities ≡ true
-
-market_parts : (k : MarketState) → market_keeps k ≡ true → MarketParts k
-market_parts k h =
-    let a = and_parts (leb k.day.month 1199) _ h in
-    let b = and_parts (leb k.percent 100) _ a.1 in
-    let c = and_parts (family_keeps k.overnight) _ b.1 in
-    let d = and_parts (family_keeps k.forward) (all_by security_keeps k.securities) c.1 in
-    record { month = a.0; percent = b.0; overnight = c.0; forward = d.0; securities = d.1 }
-
-market_from : (k : MarketState) → MarketParts k → market_keeps k ≡ true
-market_from k p = and_from _ _ p.month (and_from _ _ p.percent (and_from _ _ p.overnight (and_from _ _ p.forward p.securities)))
 
 family_kept : (k : MarketState) (f : Family) → market_keeps k ≡ true → family_keeps (family_state k f) ≡ true
 family_kept k Overnight h = (market_parts k h).overnight
@@ -130,7 +93,7 @@ changed_keeps sets k (Price q) h e =
       percent = p.percent;
       overnight = p.overnight;
       forward = p.forward;
-      securities = all_by_set security_keeps k.securities q.security (quoted q) (priced_keeps q y.1.0) p.securities;
+      securities = list_all_set security_keeps k.securities q.security (quoted q) (priced_keeps q y.1.0) p.securities;
     })
 changed_keeps sets k (StepUp n) h e =
     let p = market_parts k h in

@@ -1,5 +1,6 @@
 -- The highest of the ratios, and the per cent that it gives.
-use Rattle.std.proofs.Common.{◌≡◌, ℕ, zero, suc, ◌-◌, ◌*◌, ◌<◌, ◌≤◌, min, max, Bool, true, false, cond, leb, ◌⊎◌, List, [], ◌∷◌, length, get_or, Some, None, count_by, Option, sym, refl, ap, ◌∙◌, subst, inl, inr, ⊎_elim, mul_assoc, arith, MatchOption}
+use Rattle.std.proofs.Common.{◌≡◌, ℕ, zero, suc, ◌-◌, ◌*◌, ◌<◌, ◌≤◌, min, max, Bool, true, false, cond, leb, nat_lt, ◌⊎◌, List, [], ◌∷◌, length, get_or, Some, None, count_by, Option, sym, refl, ap, ap₂, ◌∙◌, subst, inl, inr, ⊎_elim, mul_assoc, arith, MatchOption}
+use Rattle.std.specs.List.{zip}
 use Rattle.std.proofs.lemmas.List.Sums.{get_or-le-sum_by}
 use Rattle.std.proofs.lemmas.Bool.{cases_eq, leb-true, leb-false, le-leb}
 use Rattle.tail.specs.Tail.{Kth, Short}
@@ -108,11 +109,25 @@ module _ (ts rs : List ℕ) (xs : List Ratio) (each : (i : ℕ) → i < 5 → (d
   found None len two h = absurd (⊎_elim (λ (e : ◌≡◌ {A = ℕ} 1 0). omega arith) (λ (f : length xs < 1). omega arith) h)
   found (Some q) len two h = (two, highest_of q len h)
 
--- five entries, each a return's ratio
-pub five : (ts rs : List ℕ) (a b c d e : Ratio) → Is ts rs 0 a → Is ts rs 1 b → Is ts rs 2 c → Is ts rs 3 d → Is ts rs 4 e → (i : ℕ) → i < 5 → (z : Ratio) → Is ts rs i (get_or (a ∷ b ∷ c ∷ d ∷ e ∷ []) i z)
-five ts rs a b c d e p q r s t zero h z = p
-five ts rs a b c d e p q r s t (suc zero) h z = q
-five ts rs a b c d e p q r s t (suc (suc zero)) h z = r
-five ts rs a b c d e p q r s t (suc (suc (suc zero))) h z = s
-five ts rs a b c d e p q r s t (suc (suc (suc (suc zero)))) h z = t
-five ts rs a b c d e p q r s t (suc (suc (suc (suc (suc i))))) h z = absurd (omega arith)
+-- what is told of each of five entries
+pub five : (P : ℕ → Ratio → Type 0) (xs : List Ratio) → ((z : Ratio) → P 0 (get_or xs 0 z)) → ((z : Ratio) → P 1 (get_or xs 1 z)) → ((z : Ratio) → P 2 (get_or xs 2 z)) → ((z : Ratio) → P 3 (get_or xs 3 z)) → ((z : Ratio) → P 4 (get_or xs 4 z))
+    → (i : ℕ) → i < 5 → (z : Ratio) → P i (get_or xs i z)
+five P xs p q r s t zero h z = p z
+five P xs p q r s t (suc zero) h z = q z
+five P xs p q r s t (suc (suc zero)) h z = r z
+five P xs p q r s t (suc (suc (suc zero))) h z = s z
+five P xs p q r s t (suc (suc (suc (suc zero)))) h z = t z
+five P xs p q r s t (suc (suc (suc (suc (suc i))))) h z = absurd (omega arith)
+
+five_of : (xs : List ℕ) → length xs ≡ 5 → xs ≡ (get_or xs 0 0 ∷ get_or xs 1 0 ∷ get_or xs 2 0 ∷ get_or xs 3 0 ∷ get_or xs 4 0 ∷ [])
+five_of [] h = absurd (omega arith)
+five_of (a ∷ []) h = absurd (omega arith)
+five_of (a ∷ b ∷ []) h = absurd (omega arith)
+five_of (a ∷ b ∷ c ∷ []) h = absurd (omega arith)
+five_of (a ∷ b ∷ c ∷ d ∷ []) h = absurd (omega arith)
+five_of (a ∷ b ∷ c ∷ d ∷ e ∷ []) h = refl
+five_of (a ∷ b ∷ c ∷ d ∷ e ∷ f ∷ xs) h = absurd (omega arith)
+
+-- the pairs that count, one by one
+pub counts : (ts rs : List ℕ) → length ts ≡ 5 → length rs ≡ 5 → count_by (λ (p : ℕ × ℕ). nat_lt p.0 p.1) (zip ts rs) ≡ exceeding ts rs
+counts ts rs p q = ap₂ (λ u v. count_by (λ (p : ℕ × ℕ). nat_lt p.0 p.1) (zip u v)) (five_of ts p) (five_of rs q) ∙ omega arith

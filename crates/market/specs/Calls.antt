@@ -4,7 +4,7 @@
 -- calm_returns: every return is below its calm mark. checked: a family after a volatility check. closed_family: a family after the day.
 -- market_questions: the questions of a call in their order; `sets` is how many sets the call's model has.
 -- market_changed: the market state after an accepted call. can_change: the change can be made as it stands.
-use Rattle.std.specs.Prelude.{ℕ, ◌+◌, min, max, Bool, true, false, cond, ◌&&◌, List, [], ◌∷◌, Some, None, Option, ◌==◌, nat_le, nat_lt, slice_index, slice_set}
+use Rattle.std.specs.Prelude.{ℕ, ◌+◌, min, max, Bool, true, false, if◌then◌else◌, ◌&&◌, List, [], ◌∷◌, Some, None, Option, ◌==◌, nat_le, nat_lt, slice_index, slice_set}
 use Rattle.refusals.specs.declared.refusal.Refusal.TheVariants.{NoSecurity, NoSet, WrongPrice, WrongStepUp, NoFamily, WrongAverages, WrongThresholds, WrongReturns, NoThresholds, WrongSlot, WrongMonth}
 use Rattle.refusals.specs.Refusals.{Question}
 use Rattle.tables.specs.declared.codes.Family.{Family}
@@ -122,7 +122,7 @@ checked slot rs f = checked_by f.thresholds slot rs f
 
 -- the per cent falls to 0 if all four slots were checked that day, and every return was calm at its check
 abbrev pub volatility_after_day : FamilyState → ℕ
-volatility_after_day f = cond (f.checks == 4 && f.calm) 0 f.volatility
+volatility_after_day f = if f.checks == 4 && f.calm then 0 else f.volatility
 
 -- slots begin anew
 abbrev pub closed_family : FamilyState → FamilyState

@@ -1,4 +1,5 @@
 pub mod Calls
 pub mod Days
+pub mod Lending
 pub mod States
 pub mod Volatility

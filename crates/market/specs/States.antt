@@ -5,7 +5,7 @@ use Rattle.std.specs.Prelude.{ℕ, Bool, true, ◌&&◌, List, Some, None, Optio
 use Rattle.tables.specs.declared.codes.Family.{Family}
 use Rattle.tables.specs.declared.codes.Family.TheVariants.{Overnight, Forward}
 use Rattle.tables.specs.Limits.{security_keeps}
-use Rattle.tables.specs.Lists.{all_by}
+use Rattle.std.specs.List.{list_all}
 use Rattle.market.specs.declared.state.Averages.{Averages}
 use Rattle.market.specs.declared.state.Thresholds.{Thresholds}
 use Rattle.market.specs.declared.state.FamilyState.{FamilyState}
@@ -46,4 +46,4 @@ abbrev pub market_keeps : MarketState → Bool
 market_keeps k =
     nat_le k.day.month 1199
     && (nat_le k.percent 100
-    && (family_keeps k.overnight && (family_keeps k.forward && all_by security_keeps k.securities)))
+    && (family_keeps k.overnight && (family_keeps k.forward && list_all security_keeps k.securities)))

@@ -3,12 +3,12 @@
 -- highest: the highest of the five ratios, compared by cross multiplication.
 -- tenths_of: the per cent that a ratio gives, in tenths. charged: the per cent that a check gives.
 -- Highest, RatioFound: what the check's optional ratio is.
-use Rattle.std.specs.Prelude.{◌≡◌, ℕ, zero, suc, ◌+◌, ◌-◌, ◌*◌, ◌<◌, ◌≤◌, min, max, cond, List, Some, None, Option, nat_le, nat_lt, slice_index}
+use Rattle.std.specs.Prelude.{◌≡◌, ℕ, zero, suc, ◌+◌, ◌-◌, ◌*◌, ◌<◌, ◌≤◌, min, max, if◌then◌else◌, List, Some, None, Option, nat_le, nat_lt, slice_index}
 use Rattle.tables.specs.Numbers.{rounded_up}
 use Rattle.tail.specs.declared.ratio.Ratio.{Ratio}
 
 abbrev pub exceeds : ℕ → ℕ → ℕ
-exceeds return trigger = cond (nat_lt trigger return) 1 0
+exceeds return trigger = if nat_lt trigger return then 1 else 0
 
 -- triggers first, then returns
 abbrev pub exceeding : List ℕ → List ℕ → ℕ
@@ -24,7 +24,7 @@ abbrev pub ratio_at : List ℕ → List ℕ → ℕ → ℕ × ℕ
 ratio_at ts rs i = (slice_index rs i, max (slice_index ts i) 1)
 
 abbrev pub higher : ℕ × ℕ → ℕ × ℕ → ℕ × ℕ
-higher p q = cond (nat_le (q.0 * p.1) (p.0 * q.1)) p q
+higher p q = if nat_le (q.0 * p.1) (p.0 * q.1) then p else q
 
 -- the highest of r 0 to r n
 abbrev pub highest_upto : (ℕ → ℕ × ℕ) → ℕ → ℕ × ℕ
@@ -43,7 +43,7 @@ tenths_of n d = min (5 * (rounded_to_five n d - 100)) 1000
 
 -- 0 where fewer than two returns exceed their triggers
 unfoldable pub charged : List ℕ → List ℕ → ℕ
-charged ts rs = cond (nat_lt (exceeding ts rs) 2) 0 (tenths_of (highest ts rs).0 (highest ts rs).1)
+charged ts rs = if nat_lt (exceeding ts rs) 2 then 0 else tenths_of (highest ts rs).0 (highest ts rs).1
 
 -- q is one of the five ratios, and none of the five is above it
 pub record Highest (ts rs : List ℕ) (q : Ratio) : Type 0 where

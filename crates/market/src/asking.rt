@@ -1,7 +1,7 @@
 // The questions of a market call, in order.
 ghost use Rattle.std.specs.Prelude.{◌≡◌};
 ghost use Rattle.refusals.specs.Refusals.{first_no};
-ghost use Rattle.market.specs.States.{averages_keep, thresholds_keep, family_state};
+ghost use Rattle.market.specs.States.{averages_keep, thresholds_keep};
 ghost use Rattle.market.specs.Calls.{quote_fits, returns_fit, slot_fits, month_fits, price_questions, averages_questions, thresholds_questions, check_questions, market_questions};
 
 use super::call::{Check, MarketCall, Quote};
@@ -9,16 +9,6 @@ use super::keeping::{averages_keep, thresholds_keep};
 use super::state::{Averages, FamilyState, MarketState, Thresholds};
 use refusals::refusal::{Refusal, ask};
 use tables::codes::Family;
-
-// The state of one of the two families.
-pub(crate) fn family_state(state: &MarketState, family: Family) -> FamilyState
-    ensures { result ≡ family_state state.now family }
-{
-    match family {
-        Family::Overnight => state.overnight,
-        Family::Forward => state.forward,
-    }
-}
 
 fn quote_fits(quote: Quote) -> bool
     ensures { result ≡ quote_fits quote }
@@ -50,11 +40,7 @@ fn ask_thresholds(family: u32, thresholds: Thresholds) -> Result<(), Refusal>
 fn returns_fit(returns: [u32; 5]) -> bool
     ensures { result ≡ returns_fit returns }
 {
-    returns[0] <= 1_000_000
-        && returns[1] <= 1_000_000
-        && returns[2] <= 1_000_000
-        && returns[3] <= 1_000_000
-        && returns[4] <= 1_000_000
+    returns.iter().all(|value| *value <= 1_000_000)
 }
 
 // Slots 1 to 4, each above the last of the day.
@@ -69,7 +55,7 @@ fn ask_check(state: &MarketState, check: Check) -> Result<(), Refusal>
 {
     ask(check.family <= 1, Refusal::NoFamily)?;
     ask(returns_fit(check.returns), Refusal::WrongReturns)?;
-    let family = family_state(state, Family::of(check.family));
+    let family = state.family(Family::from(check.family));
     ask(family.thresholds.is_some(), Refusal::NoThresholds)?;
     ask(slot_fits(&family, check.slot), Refusal::WrongSlot)
 }

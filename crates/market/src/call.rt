@@ -1,4 +1,5 @@
-// The calls of the market.
+// The calls of the market. Securities, families, slots and the listing are plain numbers by a rule of the
+// project: any may come, and each has a question of its own that refuses what is out of range.
 use super::state::{Averages, Thresholds};
 
 // What is published of a security: its number, paise per Rs 100 of face, per cent of haircut, listed 0 (no) or 1 (yes).

@@ -4,7 +4,6 @@ ghost use Rattle.tables.specs.Limits.{security_keeps};
 ghost use Rattle.market.specs.States.{family_state};
 ghost use Rattle.market.specs.Calls.{with_family, with_security, with_averages, with_thresholds, quoted, calm_returns, checked, volatility_after_day, closed_family, market_changed, can_change};
 
-use super::asking::family_state;
 use super::call::{Check, MarketCall, Quote};
 use super::state::{Averages, FamilyState, MarketState, Thresholds};
 use super::volatility::check_tenths;
@@ -16,11 +15,10 @@ use tables::security::Security;
 fn stays_calm(calm: bool, marks: [u32; 5], returns: [u32; 5]) -> bool
     ensures { result ≡ (calm && calm_returns marks returns) }
 {
-    calm && returns[0] < marks[0]
-        && returns[1] < marks[1]
-        && returns[2] < marks[2]
-        && returns[3] < marks[3]
-        && returns[4] < marks[4]
+    calm && returns
+        .iter()
+        .zip(marks.iter())
+        .all(|(value, mark)| value < mark)
 }
 
 // A row that takes over a security's price, haircut and listing.
@@ -46,28 +44,27 @@ impl FamilyState {
         self.checks = (self.checks + 1).min(4);
         self.calm = calm;
     }
-}
 
-// The volatility per cent that is in force after the day: 0 where all four slots were checked and every return was calm.
-fn after_the_day(family: &FamilyState) -> u32
-    ensures { result ≡ volatility_after_day family.now }
-{
-    if family.checks == 4 && family.calm {
-        0
-    } else {
-        family.volatility
+    // The volatility per cent that is in force after the day: 0 where all four slots were checked and every return was calm.
+    fn after_the_day(&self) -> u32
+        ensures { result ≡ volatility_after_day self.now }
+    {
+        if self.checks == 4 && self.calm {
+            0
+        } else {
+            self.volatility
+        }
     }
-}
 
-// The slots of a family begin anew.
-fn close_family(family: &mut FamilyState)
-    ensures { family.new ≡ closed_family family.old }
-{
-    let volatility = after_the_day(family);
-    family.volatility = volatility;
-    family.slot = 0;
-    family.checks = 0;
-    family.calm = true;
+    // The slots begin anew.
+    fn close(&mut self)
+        ensures { self.new ≡ closed_family self.old }
+    {
+        self.volatility = self.after_the_day();
+        self.slot = 0;
+        self.checks = 0;
+        self.calm = true;
+    }
 }
 
 impl MarketState {
@@ -75,18 +72,8 @@ impl MarketState {
     fn close(&mut self)
         ensures { self.new ≡ market_changed MarketCall.Close self.old }
     {
-        close_family(&mut self.overnight);
-        close_family(&mut self.forward);
-    }
-
-    // The state of one family replaced.
-    fn put_family(&mut self, family: Family, state: FamilyState)
-        ensures { self.new ≡ with_family family state self.old }
-    {
-        match family {
-            Family::Overnight => self.overnight = state,
-            Family::Forward => self.forward = state,
-        }
+        self.overnight.close();
+        self.forward.close();
     }
 
     fn price(&mut self, quote: Quote)
@@ -106,26 +93,21 @@ impl MarketState {
     fn give_averages(&mut self, family: Family, averages: Averages)
         ensures { self.new ≡ with_family family (with_averages averages (family_state self.old family)) self.old }
     {
-        let mut state = family_state(self, family);
-        state.averages = Some(averages);
-        self.put_family(family, state);
+        self.family_mut(family).averages = Some(averages);
     }
 
     fn give_thresholds(&mut self, family: Family, thresholds: Thresholds)
         ensures { self.new ≡ with_family family (with_thresholds thresholds (family_state self.old family)) self.old }
     {
-        let mut state = family_state(self, family);
-        state.thresholds = Some(thresholds);
-        self.put_family(family, state);
+        self.family_mut(family).thresholds = Some(thresholds);
     }
 
     fn check(&mut self, family: Family, check: Check)
         requires { (check.slot ≤ 4) × ((family_state self.old family).checks ≤ 4) }
         ensures { self.new ≡ with_family family (checked check.slot check.returns (family_state self.old family)) self.old }
     {
-        let mut state = family_state(self, family);
-        state.note_check(check.slot, check.returns);
-        self.put_family(family, state);
+        self.family_mut(family)
+            .note_check(check.slot, check.returns);
     }
 
     // The change of any market call.
@@ -138,12 +120,12 @@ impl MarketState {
             MarketCall::Price(quote) => self.price(quote),
             MarketCall::StepUp(percent) => self.percent = percent,
             MarketCall::Averages(family, averages) => {
-                self.give_averages(Family::of(family), averages);
+                self.give_averages(Family::from(family), averages);
             }
             MarketCall::Thresholds(family, thresholds) => {
-                self.give_thresholds(Family::of(family), thresholds);
+                self.give_thresholds(Family::from(family), thresholds);
             }
-            MarketCall::Volatility(check) => self.check(Family::of(check.family), check),
+            MarketCall::Volatility(check) => self.check(Family::from(check.family), check),
             MarketCall::Close => self.close(),
             MarketCall::Month(month) => self.day.month = month,
         }

@@ -1,5 +1,6 @@
 // Whether a market state keeps its limits.
 ghost use Rattle.std.specs.Prelude.{◌≡◌};
+ghost use Rattle.std.specs.List.{list_all, zip};
 ghost use Rattle.market.specs.States.{average_keeps, averages_keep, mark_keeps, marks_keep, thresholds_keep, family_keeps, market_keeps};
 
 use super::state::{Averages, FamilyState, MarketState, Thresholds};
@@ -14,10 +15,7 @@ fn average_keeps(average: u64) -> bool
 pub(crate) fn averages_keep(averages: Option<Averages>) -> bool
     ensures { result ≡ averages_keep averages }
 {
-    match averages {
-        None => true,
-        Some(given) => average_keeps(given.initial) && average_keeps(given.gross),
-    }
+    averages.is_none_or(|given| average_keeps(given.initial) && average_keeps(given.gross))
 }
 
 fn mark_keeps(trigger: u32, calm: u32) -> bool
@@ -26,23 +24,19 @@ fn mark_keeps(trigger: u32, calm: u32) -> bool
     1 <= calm && calm <= trigger && trigger <= 1_000_000
 }
 
-fn marks_keep(triggers: [u32; 5], calm: [u32; 5]) -> bool
-    ensures { result ≡ marks_keep triggers calm }
+fn marks_keep(triggers: &[u32], calm: &[u32]) -> bool
+    ensures { result ≡ list_all (λ p. mark_keeps p.0 p.1) (zip triggers.now calm.now) }
 {
-    mark_keeps(triggers[0], calm[0])
-        && mark_keeps(triggers[1], calm[1])
-        && mark_keeps(triggers[2], calm[2])
-        && mark_keeps(triggers[3], calm[3])
-        && mark_keeps(triggers[4], calm[4])
+    triggers
+        .iter()
+        .zip(calm)
+        .all(|(trigger, mark)| mark_keeps(*trigger, *mark))
 }
 
 pub(crate) fn thresholds_keep(thresholds: Option<Thresholds>) -> bool
     ensures { result ≡ thresholds_keep thresholds }
 {
-    match thresholds {
-        None => true,
-        Some(given) => marks_keep(given.triggers, given.calm),
-    }
+    thresholds.is_none_or(|given| marks_keep(&given.triggers, &given.calm))
 }
 
 fn family_keeps(family: &FamilyState) -> bool

@@ -1,27 +1,22 @@
 // The volatility check: the optional ratio, and the per cent that it gives.
-ghost use Rattle.std.specs.Prelude.{◌≡◌, ◌≤◌};
+ghost use Rattle.std.specs.Prelude.{◌≡◌, ◌≤◌, count_by, nat_lt};
+ghost use Rattle.std.specs.List.{zip};
 ghost use Rattle.market.specs.Volatility.{exceeds, exceeding, tenths_of, charged, RatioFound};
 
 use super::state::Thresholds;
+use std::array::from_fn;
 use tail::keeper::kth_highest;
 use tail::ratio::Ratio;
 
-fn exceeds_by_one(value: u32, trigger: u32) -> u32
-    ensures value { result ≡ exceeds value trigger }
-    ensures bound { result ≤ 1 }
-{
-    if value > trigger { 1 } else { 0 }
-}
-
 // How many of the five returns exceed their triggers.
-fn count_exceeding(triggers: [u32; 5], returns: [u32; 5]) -> u32
-    ensures { result ≡ exceeding triggers returns }
+fn count_exceeding(triggers: &[u32], returns: &[u32]) -> usize
+    ensures { result ≡ count_by (λ p. nat_lt p.0 p.1) (zip triggers.now returns.now) }
 {
-    exceeds_by_one(returns[0], triggers[0])
-        + exceeds_by_one(returns[1], triggers[1])
-        + exceeds_by_one(returns[2], triggers[2])
-        + exceeds_by_one(returns[3], triggers[3])
-        + exceeds_by_one(returns[4], triggers[4])
+    triggers
+        .iter()
+        .zip(returns)
+        .filter(|(trigger, value)| trigger < value)
+        .count()
 }
 
 // The highest of the five ratios, where at least two returns exceed their triggers.
@@ -29,16 +24,10 @@ pub fn highest_ratio(thresholds: &Thresholds, returns: [u32; 5]) -> Option<Ratio
     ensures { RatioFound thresholds.now.triggers returns result }
 {
     let triggers = thresholds.triggers;
-    if count_exceeding(triggers, returns) < 2 {
+    if count_exceeding(&triggers, &returns) < 2 {
         return None;
     }
-    let ratios = [
-        Ratio::new(returns[0], triggers[0]),
-        Ratio::new(returns[1], triggers[1]),
-        Ratio::new(returns[2], triggers[2]),
-        Ratio::new(returns[3], triggers[3]),
-        Ratio::new(returns[4], triggers[4]),
-    ];
+    let ratios: [Ratio; 5] = from_fn(|i| Ratio::new(returns[i], triggers[i]));
     let mut places = [Ratio::new(0, 1)];
     kth_highest(&ratios, &mut places)
 }

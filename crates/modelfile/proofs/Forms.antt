@@ -1,30 +1,28 @@
 -- What is known of a part of a text, word by word.
-use Rattle.std.proofs.Common.{◌≡◌, ℕ, ◌+◌, ◌*◌, ◌≤◌, Bool, true, false, cond, leb, List, map, ℤ, Some, None, vec_items, Decides, Result, sym, ap, ◌∙◌, subst, MatchResult}
+use Rattle.std.proofs.Common.{◌≡◌, ℕ, ◌*◌, ◌≤◌, Bool, true, false, cond, leb, List, map, ℤ, Some, None, Decides, Result, sym, ap, ◌∙◌, subst, MatchResult}
 use Rattle.std.proofs.lemmas.Bool.Decides.{same_from_decides, Decides-and}
-use Rattle.std.proofs.lemmas.Bool.{leb-true, le-leb, lt-leb}
+use Rattle.std.proofs.lemmas.Bool.{leb-true, le-leb}
 use Rattle.models.specs.Sound.{Counts}
-use Rattle.models.specs.Joined.{joint}
-use Rattle.models.specs.Meaning.{Meaning}
-use Rattle.models.specs.Refusals.{Unjoinable}
-use Rattle.models.specs.declared.refusal.MakingRefusal.{MakingRefusal}
-use Rattle.models.specs.declared.refusal.MakingRefusal.TheVariants.{WrongCounts, WrongLengths, TooManyScenarios}
+use Rattle.models.specs.declared.refusal.MakingRefusal.TheVariants.{WrongCounts, WrongLengths}
 use Rattle.scan.specs.Number.{number_of}
 use Rattle.scan.specs.Words.{word_of, rest_of, after_number}
 use Rattle.modelfile.specs.Kinds.{kind_of, cells_of, fits}
 use Rattle.modelfile.specs.Taken.{taken, left, as_size, as_change}
 use Rattle.modelfile.specs.Parts.{Part, stopped, numbers, refused, malformed, counts_fit, followed, followed_by, tables_of, sized, counted, count_of, named_part, part_of}
-use Rattle.modelfile.specs.Texts.{ending, joining, UnlessMemory}
+use Rattle.modelfile.specs.Texts.{UnlessMemory}
 use Rattle.modelfile.specs.declared.kind.Kind.{Kind}
-use Rattle.modelfile.specs.declared.numbers.Numbers.{Numbers}
+use Rattle.owned.specs.Owned.{owned}
+use Rattle.modelfile.specs.declared.numbers.NamedNumbers.{NamedNumbers}
 use Rattle.modelfile.specs.declared.refusal.LoadRefusal.{LoadRefusal}
 
-module _ (k : Kind) (s n size volume : ℕ) (bs b1 b2 b3 : List ℕ) (rs ts : List ℕ) (cs : List ℤ) where
-  pub tables_are : rs ≡ map as_size (taken size bs) → b1 ≡ left size bs
+module _ (k : Kind) (s n x y size volume : ℕ) (bs b1 b2 b3 : List ℕ) (rs ts : List ℕ) (cs : List ℤ) where
+  pub tables_are : size ≡ x → volume ≡ y
+      → rs ≡ map as_size (taken size bs) → b1 ≡ left size bs
       → ts ≡ map as_size (taken size b1) → b2 ≡ left size b1
       → cs ≡ map as_change (taken volume b2) → b3 ≡ left volume b2
-      → tables_of k s n size volume bs ≡ followed_by b3 (numbers k s n rs ts cs b3)
+      → tables_of k s n x y bs ≡ followed_by b3 (numbers k (record { sets = s; scenarios = n; rates = rs; ticks = ts; changes = cs }) b3)
   unfolding tables_of
-  tables_are r e1 t e2 c e3 = cc
+  tables_are h v r e1 t e2 c e3 = cc
 
 pub one_more : (bs : List ℕ) (p : Part) (z : ℤ) → number_of (word_of bs) ≡ Some z → followed_by bs p ≡ stopped (refused WrongLengths)
 one_more bs p z e = ap (λ o. followed o (fits (word_of bs)) p) e
@@ -77,16 +75,8 @@ pub counts_wrong : (k : Kind) (s n : ℕ) (bs : List ℕ) → counts_fit s n ≡
 counts_wrong k s n bs e = ap (λ t. cond t (tables_of k s n (cells_of k * s) (cells_of k * s * n) bs) (stopped (refused WrongCounts))) e
 
 -- what is read of a part is read of the same part
-pub read_same : (p q : Part) (r : Result Numbers LoadRefusal) (rest : List ℕ) → p ≡ q
-    → MatchResult r (λ n. q ≡ numbers n.kind n.sets n.scenarios (vec_items n.rates) (vec_items n.ticks) (vec_items n.changes) rest) (λ e. UnlessMemory e (λ a. q ≡ stopped a))
-    → MatchResult r (λ n. p ≡ numbers n.kind n.sets n.scenarios (vec_items n.rates) (vec_items n.ticks) (vec_items n.changes) rest) (λ e. UnlessMemory e (λ a. p ≡ stopped a))
+pub read_same : (p q : Part) (r : Result NamedNumbers LoadRefusal) (rest : List ℕ) → p ≡ q
+    → MatchResult r (λ n. q ≡ numbers n.kind (owned n.numbers) rest) (λ e. UnlessMemory e (λ a. q ≡ stopped a))
+    → MatchResult r (λ n. p ≡ numbers n.kind (owned n.numbers) rest) (λ e. UnlessMemory e (λ a. p ≡ stopped a))
 read_same p q r rest e =
-    subst (λ x. MatchResult r (λ n. x ≡ numbers n.kind n.sets n.scenarios (vec_items n.rates) (vec_items n.ticks) (vec_items n.changes) rest) (λ d. UnlessMemory d (λ a. x ≡ stopped a))) (sym e)
-
-pub sizes_same : (k : Kind) (s n x y size volume : ℕ) (bs : List ℕ) → size ≡ x → volume ≡ y → tables_of k s n x y bs ≡ tables_of k s n size volume bs
-sizes_same k s n x y size volume bs e f = cc
-
-pub not_joined : (f g : Meaning) (after : List ℕ) (r : MakingRefusal) → Unjoinable f.scenarios g.scenarios r → refused r ≡ joining f g after
-not_joined f g after r u =
-    ap refused u.0
-    ∙ sym (ap (λ t. cond t (ending (joint f g) after) (refused TooManyScenarios)) (lt-leb (f.scenarios + g.scenarios) 1000 u.1))
+    subst (λ x. MatchResult r (λ n. x ≡ numbers n.kind (owned n.numbers) rest) (λ d. UnlessMemory d (λ a. x ≡ stopped a))) (sym e)

@@ -5,4 +5,4 @@ use Rattle.models.specs.Meaning.{Meaning}
 use Rattle.models.specs.Table.{table}
 
 unfoldable pub zero_table : Meaning
-zero_table = table 1 20 (replicate 484 0) (replicate 484 0) (replicate 9680 (pos 0))
+zero_table = table (record { sets = 1; scenarios = 20; rates = replicate 484 0; ticks = replicate 484 0; changes = replicate 9680 (pos 0) })

@@ -2,13 +2,14 @@
 --   refused_one    tables are refused for one reason
 --   sound_passes   and for none where they make a model
 --   gives_one      two answers of one text are the same
-use Rattle.std.specs.Prelude.{◌≡◌, ℕ, ◌≤◌, Bool, true, false, List, ℤ, codes, refl}
+use Rattle.std.specs.Prelude.{◌≡◌, ℕ, ◌≤◌, Bool, true, false, List, codes, refl}
 use Rattle.std.proofs.Common.{ap, sym, subst, ◌∙◌, ⊎_elim, arith}
 use Rattle.std.proofs.lemmas.Bool.{both_ways, cases_lt}
 use Rattle.std.specs.Str.{bytes_eq}
 use Rattle.models.specs.Meaning.{Meaning}
 use Rattle.models.specs.Refusals.{Refused}
 use Rattle.models.specs.Sound.{Sound, FirstOut, in_range}
+use Rattle.models.specs.Tables.{Tables}
 use Rattle.models.specs.declared.refusal.MakingRefusal.{MakingRefusal}
 use Rattle.models.specs.declared.refusal.MakingRefusal.TheVariants.{WrongCounts, WrongLengths, OutOfRange, TooManyScenarios}
 use Rattle.scan.specs.Words.{word_of, rest_of}
@@ -16,18 +17,18 @@ use Rattle.modelfile.specs.Parts.{Answer, means, refused, malformed, Part, stopp
 use Rattle.modelfile.specs.Texts.{Then, ending, joining, Second, GivesBy, Gives}
 
 -- a place before the first one out of range is in range
-first_least : (limit : ℕ) (rs ts : List ℕ) (cs : List ℤ) (i j : ℕ) → FirstOut limit rs ts cs i → FirstOut limit rs ts cs j → j ≤ i
-first_least limit rs ts cs i j h k =
-    ⊎_elim (λ lt. absurd (both_ways (in_range limit rs ts cs i) h.0 (k.1 i lt))) (λ ge. ge) (cases_lt i j)
+first_least : (limit : ℕ) (t : Tables) (i j : ℕ) → FirstOut limit t i → FirstOut limit t j → j ≤ i
+first_least limit t i j h k =
+    ⊎_elim (λ lt. absurd (both_ways (in_range limit t i) h.0 (k.1 i lt))) (λ ge. ge) (cases_lt i j)
 
-first_one : (limit : ℕ) (rs ts : List ℕ) (cs : List ℤ) (i j : ℕ) → FirstOut limit rs ts cs i → FirstOut limit rs ts cs j → i ≡ j
-first_one limit rs ts cs i j h k =
-    let a = first_least limit rs ts cs i j h k in
-    let b = first_least limit rs ts cs j i k h in
+first_one : (limit : ℕ) (t : Tables) (i j : ℕ) → FirstOut limit t i → FirstOut limit t j → i ≡ j
+first_one limit t i j h k =
+    let a = first_least limit t i j h k in
+    let b = first_least limit t j i k h in
     omega arith
 
-module _ (cells limit s n : ℕ) (rs ts : List ℕ) (cs : List ℤ) where
-  pub refused_one : (r q : MakingRefusal) → Refused cells limit s n rs ts cs r → Refused cells limit s n rs ts cs q → r ≡ q
+module _ (cells limit : ℕ) (t : Tables) where
+  pub refused_one : (r q : MakingRefusal) → Refused cells limit t r → Refused cells limit t q → r ≡ q
   refused_one WrongCounts WrongCounts h k = refl
   refused_one WrongCounts WrongLengths h k = absurd (h k.0)
   refused_one WrongCounts (OutOfRange j) h k = absurd (h k.0)
@@ -38,33 +39,33 @@ module _ (cells limit s n : ℕ) (rs ts : List ℕ) (cs : List ℤ) where
   refused_one WrongLengths TooManyScenarios h k = absurd k
   refused_one (OutOfRange i) WrongCounts h k = absurd (k h.0)
   refused_one (OutOfRange i) WrongLengths h k = absurd (k.1 h.1)
-  refused_one (OutOfRange i) (OutOfRange j) h k = ap OutOfRange (first_one limit rs ts cs i j h.2 k.2)
+  refused_one (OutOfRange i) (OutOfRange j) h k = ap OutOfRange (first_one limit t i j h.2 k.2)
   refused_one (OutOfRange i) TooManyScenarios h k = absurd k
   refused_one TooManyScenarios q h k = absurd h
 
-  pub sound_passes : (r : MakingRefusal) → Sound cells limit s n rs ts cs → Refused cells limit s n rs ts cs r → ⊥
+  pub sound_passes : (r : MakingRefusal) → Sound cells limit t → Refused cells limit t r → ⊥
   sound_passes WrongCounts ok h = h ok.0
   sound_passes WrongLengths ok h = h.1 ok.1
-  sound_passes (OutOfRange i) ok h = both_ways (in_range limit rs ts cs i) h.2.0 (ok.2 i)
+  sound_passes (OutOfRange i) ok h = both_ways (in_range limit t i) h.2.0 (ok.2 i)
   sound_passes TooManyScenarios ok h = h
 
 makes_one : (p : Part) (m n : Meaning) (after rest : List ℕ) → Makes p m after → Makes p n rest → (m ≡ n) × (after ≡ rest)
 makes_one (stopped a) m n after rest h k = absurd h
-makes_one (numbers kind s runs rs ts cs left) m n after rest h k = (h.1 ∙ sym k.1, h.2 ∙ sym k.2)
+makes_one (numbers kind t left) m n after rest h k = (h.1 ∙ sym k.1, h.2 ∙ sym k.2)
 
 ends_one : (p : Part) (a b : Answer) → EndsWith p a → EndsWith p b → a ≡ b
 ends_one (stopped c) a b h k = h ∙ sym k
-ends_one (numbers kind s n rs ts cs rest) (means m) b h k = absurd h
-ends_one (numbers kind s n rs ts cs rest) malformed b h k = absurd h
-ends_one (numbers kind s n rs ts cs rest) (refused r) (means m) h k = absurd k
-ends_one (numbers kind s n rs ts cs rest) (refused r) malformed h k = absurd k
-ends_one (numbers kind s n rs ts cs rest) (refused r) (refused q) h k = ap refused (refused_one _ _ s n rs ts cs r q h k)
+ends_one (numbers kind t rest) (means m) b h k = absurd h
+ends_one (numbers kind t rest) malformed b h k = absurd h
+ends_one (numbers kind t rest) (refused r) (means m) h k = absurd k
+ends_one (numbers kind t rest) (refused r) malformed h k = absurd k
+ends_one (numbers kind t rest) (refused r) (refused q) h k = ap refused (refused_one _ _ t r q h k)
 
 makes_or_ends : (p : Part) (m : Meaning) (after : List ℕ) (a : Answer) → Makes p m after → EndsWith p a → ⊥
 makes_or_ends (stopped c) m after a h k = h
-makes_or_ends (numbers kind s n rs ts cs rest) m after (means o) h k = k
-makes_or_ends (numbers kind s n rs ts cs rest) m after malformed h k = k
-makes_or_ends (numbers kind s n rs ts cs rest) m after (refused r) h k = sound_passes _ _ s n rs ts cs r h.0 k
+makes_or_ends (numbers kind t rest) m after (means o) h k = k
+makes_or_ends (numbers kind t rest) m after malformed h k = k
+makes_or_ends (numbers kind t rest) m after (refused r) h k = sound_passes _ _ t r h.0 k
 
 then_one : (p : Part) (next : Meaning → List ℕ → Answer → Type 0)
     → ((m : Meaning) (after : List ℕ) (a b : Answer) → next m after a → next m after b → a ≡ b)

@@ -1,13 +1,14 @@
 -- What a text says of one model. Assumes nothing.
 --   Answer        what a text gives: a model's meaning, a refusal of its numbers, or it is no model's text
 --   Part          what its words and numbers are for one model: they stop with an answer, or there are
---                 numbers (kind, sets, scenarios, rates, tick values, changes) and the text after them
+--                 numbers of a kind of model and the text after them
 --   counts_fit    whether a model may have so many sets and scenarios
 --   part_of       the part that stands first in a text: a name, two counts, and the numbers of three tables
 --   Makes         the numbers of a part make a model of this meaning, with this text after it
 --   EndsWith      a part ends with this answer: it stopped with it, or its numbers are refused with it
 use Rattle.std.specs.Prelude.{◌≡◌, ℕ, ◌*◌, Bool, cond, ◌&&◌, List, map, ℤ, Some, None, Option, nat_le}
 use Rattle.models.specs.Meaning.{Meaning}
+use Rattle.models.specs.Tables.{Tables}
 use Rattle.models.specs.declared.refusal.MakingRefusal.{MakingRefusal}
 use Rattle.models.specs.declared.refusal.MakingRefusal.TheVariants.{WrongCounts, WrongLengths}
 use Rattle.scan.specs.Number.{number_of}
@@ -23,7 +24,7 @@ pub data Answer : Type 0 where
 
 pub data Part : Type 0 where
   stopped : Answer → Part
-  numbers : Kind → ℕ → ℕ → List ℕ → List ℕ → List ℤ → List ℕ → Part
+  numbers : Kind → Tables → List ℕ → Part
 
 abbrev pub counts_fit : ℕ → ℕ → Bool
 counts_fit s n = nat_le 1 s && (nat_le s 8 && (nat_le 1 n && nat_le n 1000))
@@ -40,8 +41,13 @@ followed_by bs p = followed (number_of (word_of bs)) (fits (word_of bs)) p
 unfoldable pub tables_of : Kind → ℕ → ℕ → ℕ → ℕ → List ℕ → Part
 tables_of k s n size volume bs =
     followed_by (left volume (left size (left size bs)))
-    (numbers k s n (map as_size (taken size bs)) (map as_size (taken size (left size bs))) (map as_change (taken volume (left size (left size bs))))
-    (left volume (left size (left size bs))))
+    (numbers k (record {
+      sets = s;
+      scenarios = n;
+      rates = map as_size (taken size bs);
+      ticks = map as_size (taken size (left size bs));
+      changes = map as_change (taken volume (left size (left size bs)));
+    }) (left volume (left size (left size bs))))
 
 abbrev pub sized : Kind → ℕ → ℕ → List ℕ → Part
 sized k s n bs = cond (counts_fit s n) (tables_of k s n (cells_of k * s) (cells_of k * s * n) bs) (stopped (refused WrongCounts))
@@ -64,10 +70,10 @@ part_of bs = named_part (kind_of (word_of bs)) (rest_of bs)
 
 abbrev pub Makes : Part → Meaning → List ℕ → Type 0
 Makes (stopped a) m after = ⊥
-Makes (numbers k s n rs ts cs rest) m after = SoundOf k s n rs ts cs × (m ≡ meaning_of k s n rs ts cs) × (after ≡ rest)
+Makes (numbers k t rest) m after = SoundOf k t × (m ≡ meaning_of k t) × (after ≡ rest)
 
 abbrev pub EndsWith : Part → Answer → Type 0
 EndsWith (stopped a) b = b ≡ a
-EndsWith (numbers k s n rs ts cs rest) (means m) = ⊥
-EndsWith (numbers k s n rs ts cs rest) (refused r) = RefusedOf k s n rs ts cs r
-EndsWith (numbers k s n rs ts cs rest) malformed = ⊥
+EndsWith (numbers k t rest) (means m) = ⊥
+EndsWith (numbers k t rest) (refused r) = RefusedOf k t r
+EndsWith (numbers k t rest) malformed = ⊥

@@ -1,5 +1,5 @@
 // The models that a text has a name for.
-#[derive(Clone, Copy)]
+#[derive(Clone, Copy, Debug, PartialEq, Eq)]
 pub enum Kind {
     Table,
     Knots,

@@ -3,18 +3,18 @@ ghost use Rattle.std.specs.Prelude.{◌≡◌, ◌≤◌};
 ghost use Rattle.modelfile.specs.Kinds.{kind_of, cells_of, fits};
 
 use super::kind::Kind;
-use scan::scan::same;
+use knots::model::KnotLayout;
+use models::layout::Layout;
+use models::table::TableLayout;
 
 // The kind that a word names.
 pub fn named(word: &[u8]) -> Option<Kind>
     ensures { result ≡ kind_of word.now }
 {
-    if same(word, "table".as_bytes()) {
-        Some(Kind::Table)
-    } else if same(word, "knot".as_bytes()) {
-        Some(Kind::Knots)
-    } else {
-        None
+    match word {
+        b"table" => Some(Kind::Table),
+        b"knot" => Some(Kind::Knots),
+        _ => None,
     }
 }
 
@@ -24,8 +24,8 @@ pub fn cells(kind: Kind) -> u32
     ensures most { result ≤ 484 }
 {
     match kind {
-        Kind::Table => 484,
-        Kind::Knots => 48,
+        Kind::Table => TableLayout::CELLS,
+        Kind::Knots => KnotLayout::CELLS,
     }
 }
 

@@ -1,12 +1,9 @@
 // The numbers of a model as a text has them: nothing is known of them.
 use super::kind::Kind;
+use owned::owned_model::OwnedNumbers;
 
 #[derive(Drop)]
-pub struct Numbers {
+pub struct NamedNumbers {
     pub kind: Kind,
-    pub sets: u32,
-    pub scenarios: u32,
-    pub rates: Vec<u32>,
-    pub ticks: Vec<u32>,
-    pub changes: Vec<i32>,
+    pub numbers: OwnedNumbers,
 }

@@ -1,6 +1,7 @@
 // Reads the numbers of one model, and asks nothing of them but their counts.
-ghost use Rattle.std.specs.Prelude.{◌≡◌, ◌*◌, ◌≤◌, map, IfOk, MatchResult};
+ghost use Rattle.std.specs.Prelude.{◌≡◌, ◌*◌, ◌≤◌, ℤ, map, IfOk, MatchResult};
 ghost use Rattle.models.specs.Sound.{Counts};
+ghost use Rattle.owned.specs.Owned.{owned};
 ghost use Rattle.scan.specs.Number.{number_of};
 ghost use Rattle.scan.specs.Words.{word_of, after_number};
 ghost use Rattle.modelfile.specs.Kinds.{cells_of};
@@ -10,33 +11,42 @@ ghost use Rattle.modelfile.specs.Texts.{UnlessMemory};
 
 use super::kind::Kind;
 use super::names::{cells, may_follow, named};
-use super::numbers::Numbers;
+use super::numbers::NamedNumbers;
 use super::refusal::LoadRefusal;
 use models::check::counts_fit;
 use models::refusal::MakingRefusal;
+use owned::owned_model::OwnedNumbers;
 use scan::number::{next_number, number};
 use scan::scan::Scan;
 use std::alloc::{AllocError, Global};
 
-// A number as a rate, a tick value or a count is held. One that does not fit is held as out of range.
-fn as_size(n: i128) -> u32
-    ensures { result ≡ as_size n }
-{
-    if n < 0 || n > 4_294_967_295 {
-        u32::MAX
-    } else {
-        n as u32
+// A number as a table holds it.
+trait Hold: Drop {
+    ghost held: { ℤ → Self };
+
+    fn hold(n: i128) -> Self
+        ensures { result ≡ held n };
+}
+
+// As a rate, a tick value or a count. One that does not fit is held as out of range.
+impl Hold for u32 {
+    ghost held = { as_size };
+
+    fn hold(n: i128) -> u32 {
+        u32::try_from(n).unwrap_or(u32::MAX)
     }
 }
 
-// A number as a change or shock is held. One that does not fit is held as out of range.
-fn as_change(n: i128) -> i32
-    ensures { result ≡ as_change n }
-{
-    if n.unsigned_abs() <= 2_147_483_647 {
-        n as i32
-    } else {
-        i32::MAX
+// As a change or shock. One that does not fit is held as out of range; so is -2^31, which `try_from` would keep.
+impl Hold for i32 {
+    ghost held = { as_change };
+
+    fn hold(n: i128) -> i32 {
+        if n.unsigned_abs() <= 2_147_483_647 {
+            n as i32
+        } else {
+            i32::MAX
+        }
     }
 }
 
@@ -45,94 +55,46 @@ fn next_count(scan: &mut Scan) -> Option<u32>
     ensures value { result ≡ size_by (number_of (word_of scan.old.rest.now)) }
     ensures after { scan.new.rest.now ≡ after_number scan.old.rest.now }
 {
-    match next_number(scan) {
-        Some(n) => Some(as_size(n)),
-        None => None,
-    }
+    next_number(scan).map(|n| u32::hold(n))
 }
 
-// The numbers that come next, at most so many, as rates or tick values.
-fn next_sizes(heap: Global, scan: &mut Scan, most: usize) -> Result<Vec<u32>, AllocError>
-    ensures { IfOk result (λ v. (v.items ≡ map as_size (taken most scan.old.rest.now)) × (scan.new.rest.now ≡ left most scan.old.rest.now)) }
+// The numbers that come next, at most so many, as a table holds them. The range only counts: a word that is no number ends
+// it, and a push may fail, which a chain with `map_while` has no place for.
+fn next_numbers<T: Hold>(heap: Global, scan: &mut Scan, most: usize) -> Result<Vec<T>, AllocError>
+    ensures { IfOk result (λ v. (v.items ≡ map T.held (taken most scan.old.rest.now)) × (scan.new.rest.now ≡ left most scan.old.rest.now)) }
 {
     let mut found = Vec::with_capacity(heap, most)?;
     for i in 0..most {
         match next_number(scan) {
-            Some(n) => found.push(as_size(n))?,
+            Some(n) => found.push(T::hold(n))?,
             None => return Ok(found),
         }
     }
     Ok(found)
 }
 
-// The numbers that come next, at most so many, as changes or shocks.
-fn next_changes(heap: Global, scan: &mut Scan, most: usize) -> Result<Vec<i32>, AllocError>
-    ensures { IfOk result (λ v. (v.items ≡ map as_change (taken most scan.old.rest.now)) × (scan.new.rest.now ≡ left most scan.old.rest.now)) }
-{
-    let mut found = Vec::with_capacity(heap, most)?;
-    for i in 0..most {
-        match next_number(scan) {
-            Some(n) => found.push(as_change(n))?,
-            None => return Ok(found),
-        }
-    }
-    Ok(found)
-}
-
-// The three tables, which may be too short.
-fn read_tables(
-    heap: Global,
-    scan: &mut Scan,
+// What stands before the tables of a model: its kind and counts.
+#[derive(Clone, Copy)]
+struct Head {
     kind: Kind,
     sets: u32,
     scenarios: u32,
-    size: usize,
-    volume: usize,
-) -> Result<Numbers, LoadRefusal>
-    ensures { MatchResult result (λ n. tables_of kind sets scenarios size volume scan.old.rest.now ≡ numbers n.kind n.sets n.scenarios n.rates.items n.ticks.items n.changes.items scan.new.rest.now) (λ e. UnlessMemory e (λ a. tables_of kind sets scenarios size volume scan.old.rest.now ≡ stopped a)) }
-{
-    let Ok(rates) = next_sizes(heap, scan, size) else {
-        return Err(LoadRefusal::Memory);
-    };
-    let Ok(ticks) = next_sizes(heap, scan, size) else {
-        return Err(LoadRefusal::Memory);
-    };
-    let Ok(changes) = next_changes(heap, scan, volume) else {
-        return Err(LoadRefusal::Memory);
-    };
-    let mut ahead = *scan;
-    let word = ahead.word();
-    match number(word) {
-        Some(_) => Err(LoadRefusal::Making(MakingRefusal::WrongLengths)),
-        None => {
-            if may_follow(word) {
-                Ok(Numbers {
-                    kind,
-                    sets,
-                    scenarios,
-                    rates,
-                    ticks,
-                    changes,
-                })
-            } else {
-                Err(LoadRefusal::Malformed)
-            }
-        }
+    ghost fit: { Counts sets scenarios },
+}
+
+impl Head {
+    // How many numbers the first two tables have each, and the last.
+    fn sizes(self) -> (usize, usize)
+        ensures { (result.0 ≡ cells_of self.kind * self.sets) × (result.1 ≡ cells_of self.kind * self.sets * self.scenarios) }
+    {
+        let size = cells(self.kind) * self.sets;
+        (size as usize, (size * self.scenarios) as usize)
     }
 }
 
-// How many numbers the first two tables have each, and the last.
-fn sizes(kind: Kind, sets: u32, scenarios: u32) -> (usize, usize)
-    requires { Counts sets scenarios }
-    ensures { (result.0 ≡ cells_of kind * sets) × (result.1 ≡ cells_of kind * sets * scenarios) }
-{
-    let size = cells(kind) * sets;
-    (size as usize, (size * scenarios) as usize)
-}
-
-// The numbers of the model that stands first in a text, or why there are none.
-pub fn read_numbers(heap: Global, scan: &mut Scan) -> Result<Numbers, LoadRefusal>
-    ensures { MatchResult result (λ n. part_of scan.old.rest.now ≡ numbers n.kind n.sets n.scenarios n.rates.items n.ticks.items n.changes.items scan.new.rest.now) (λ e. UnlessMemory e (λ a. part_of scan.old.rest.now ≡ stopped a)) }
+// The kind and counts of the model that stands first in a text, or why there are none.
+fn read_head(scan: &mut Scan) -> Result<Head, LoadRefusal>
+    ensures { MatchResult result (λ h. part_of scan.old.rest.now ≡ tables_of h.kind h.sets h.scenarios (cells_of h.kind * h.sets) (cells_of h.kind * h.sets * h.scenarios) scan.new.rest.now) (λ e. UnlessMemory e (λ a. part_of scan.old.rest.now ≡ stopped a)) }
 {
     let Some(kind) = named(scan.word()) else {
         return Err(LoadRefusal::Malformed);
@@ -146,6 +108,56 @@ pub fn read_numbers(heap: Global, scan: &mut Scan) -> Result<Numbers, LoadRefusa
     if !counts_fit(sets, scenarios) {
         return Err(LoadRefusal::Making(MakingRefusal::WrongCounts));
     }
-    let (size, volume) = sizes(kind, sets, scenarios);
-    read_tables(heap, scan, kind, sets, scenarios, size, volume)
+    Ok(Head {
+        kind,
+        sets,
+        scenarios,
+    })
+}
+
+// The three tables after a head, which may be too short.
+fn next_tables(heap: Global, scan: &mut Scan, head: Head) -> Result<OwnedNumbers, AllocError>
+    ensures { IfOk result (λ n. tables_of head.kind head.sets head.scenarios (cells_of head.kind * head.sets) (cells_of head.kind * head.sets * head.scenarios) scan.old.rest.now ≡ followed_by scan.new.rest.now (numbers head.kind (owned n) scan.new.rest.now)) }
+{
+    let (size, volume) = head.sizes();
+    let rates = next_numbers(heap, scan, size)?;
+    let ticks = next_numbers(heap, scan, size)?;
+    let changes = next_numbers(heap, scan, volume)?;
+    Ok(OwnedNumbers {
+        sets: head.sets,
+        scenarios: head.scenarios,
+        rates,
+        ticks,
+        changes,
+    })
+}
+
+// The same, if what follows them may stand there.
+fn read_tables(heap: Global, scan: &mut Scan, head: Head) -> Result<NamedNumbers, LoadRefusal>
+    ensures { MatchResult result (λ n. tables_of head.kind head.sets head.scenarios (cells_of head.kind * head.sets) (cells_of head.kind * head.sets * head.scenarios) scan.old.rest.now ≡ numbers n.kind (owned n.numbers) scan.new.rest.now) (λ e. UnlessMemory e (λ a. tables_of head.kind head.sets head.scenarios (cells_of head.kind * head.sets) (cells_of head.kind * head.sets * head.scenarios) scan.old.rest.now ≡ stopped a)) }
+{
+    let numbers = next_tables(heap, scan, head)?;
+    let mut ahead = *scan;
+    let word = ahead.word();
+    match number(word) {
+        Some(_) => Err(LoadRefusal::Making(MakingRefusal::WrongLengths)),
+        None => {
+            if may_follow(word) {
+                Ok(NamedNumbers {
+                    kind: head.kind,
+                    numbers,
+                })
+            } else {
+                Err(LoadRefusal::Malformed)
+            }
+        }
+    }
+}
+
+// The numbers of the model that stands first in a text, or why there are none.
+pub fn read_numbers(heap: Global, scan: &mut Scan) -> Result<NamedNumbers, LoadRefusal>
+    ensures { MatchResult result (λ n. part_of scan.old.rest.now ≡ numbers n.kind (owned n.numbers) scan.new.rest.now) (λ e. UnlessMemory e (λ a. part_of scan.old.rest.now ≡ stopped a)) }
+{
+    let head = read_head(scan)?;
+    read_tables(heap, scan, head)
 }

@@ -1,7 +1,11 @@
 // Why a text gives no model.
-use models::refusal::MakingRefusal;
+ghost use Rattle.std.specs.Prelude.{◌≡◌};
+ghost use Rattle.modelfile.specs.declared.refusal.LoadRefusal.TheVariants.{Making, Memory};
 
-#[derive(Clone, Copy)]
+use models::refusal::MakingRefusal;
+use std::alloc::AllocError;
+
+#[derive(Clone, Copy, Debug, PartialEq, Eq)]
 pub enum LoadRefusal {
     // Its numbers make no model.
     Making(MakingRefusal),
@@ -9,4 +13,20 @@ pub enum LoadRefusal {
     Malformed,
     // There is not the memory for it.
     Memory,
+}
+
+impl From<MakingRefusal> for LoadRefusal {
+    ghost from_gives = { λ e r. r ≡ Making e };
+
+    fn from(refusal: MakingRefusal) -> LoadRefusal {
+        LoadRefusal::Making(refusal)
+    }
+}
+
+impl From<AllocError> for LoadRefusal {
+    ghost from_gives = { λ _ r. r ≡ Memory };
+
+    fn from(_error: AllocError) -> LoadRefusal {
+        LoadRefusal::Memory
+    }
 }

@@ -1,1 +1,2 @@
-pub mod Marks
+mod Marks
+mod Held

@@ -1,41 +1,32 @@
--- Where the first number out of range stands, counted through one list after another. Assumes nothing.
-use Rattle.std.proofs.Common.{◌≡◌, ℕ, ◌+◌, ◌-◌, ◌<◌, ◌≤◌, Bool, true, false, List, ◌++◌, map, length, get_or, refl, ◌∙◌, ⊎_elim, arith}
-use Rattle.std.proofs.lemmas.List.{get_or_append_left, get_or-append_right, get_or-map, get_or_past, length-map}
-use Rattle.std.proofs.lemmas.Bool.{cases_lt}
-use Rattle.models.specs.Sound.{FirstNot}
+-- The first number out of range, by its mark. Assumes nothing.
+use Rattle.std.proofs.Common.{◌≡◌, ℕ, zero, suc, ◌<◌, ◌≤◌, Bool, true, false, not, cond, List, [], ◌∷◌, length, get_or, refl, sym, Some, None, Option, MatchOption, arith}
+use Rattle.std.proofs.lemmas.Bool.{ltb-false}
+use Rattle.std.proofs.lemmas.List.Quantifiers.{position-Some}
+use Rattle.std.specs.List.{position, position_or_len}
 use Rattle.models.specs.SoundLaws.{AllTrue}
 
--- the first place of a mark that is false
-abbrev pub FirstFalse : List Bool → ℕ → Type 0
-FirstFalse vs i = (get_or vs i true ≡ false) × ((k : ℕ) → k < i → get_or vs k true ≡ true)
+not_false : (b : Bool) → not b ≡ false → b ≡ true
+not_false true h = refl
+not_false false h = absurd (cc)
 
-pub all_append : (us vs : List Bool) → AllTrue us → AllTrue vs → AllTrue (us ++ vs)
-all_append us vs h g k =
-    ⊎_elim (λ lt. get_or_append_left us vs true k lt ∙ h k)
-    (λ ge. get_or-append_right us vs (length us) k true refl ge ∙ g (k - length us)) (cases_lt k (length us))
+not_true : (b : Bool) → not b ≡ true → b ≡ false
+not_true true h = absurd (cc)
+not_true false h = refl
 
-pub first_front : (us vs : List Bool) (i : ℕ) → i < length us → FirstFalse us i → FirstFalse (us ++ vs) i
-first_front us vs i lt h = (
-  get_or_append_left us vs true i lt ∙ h.0,
-  λ k l. get_or_append_left us vs true k (omega arith) ∙ h.1 k l,
-)
+past : (vs : List Bool) → length vs ≤ position_or_len not vs → AllTrue vs
+past [] h k = refl
+past (true ∷ vs) h zero = refl
+past (true ∷ vs) h (suc k) = past vs (omega arith) k
+past (false ∷ vs) h k = absurd (omega arith)
 
-pub first_rest : (us vs : List Bool) (n i : ℕ) → length us ≡ n → AllTrue us → FirstFalse vs i → FirstFalse (us ++ vs) (n + i)
-first_rest us vs n i e a h = (
-  get_or-append_right us vs n (n + i) true e (omega arith) ∙ (let m : (n + i) - n ≡ i = omega arith in rw m h.0),
-  λ k l.
-      ⊎_elim (λ lt. get_or_append_left us vs true k (omega arith) ∙ a k)
-      (λ ge. get_or-append_right us vs n k true e ge ∙ h.1 (k - n) (omega arith)) (cases_lt k n),
-)
+reaches : (b : Bool) (i : ℕ) → cond b (Some i) None ≡ None → b ≡ false
+reaches true i e = absurd (cc)
+reaches false i e = refl
 
-module _ {X : Type 0} (test : X → Bool) (d : X) (xs : List X) (i : ℕ) (first : FirstNot test d xs i) where
-  pub first_marked : i < length xs → FirstFalse (map test xs) i
-  first_marked lt = (
-    get_or-map test xs i d true lt ∙ first.2 lt,
-    λ k l. get_or-map test xs k d true (omega arith) ∙ first.1 k l,
-  )
-
-  pub all_marked : length xs ≤ i → AllTrue (map test xs)
-  all_marked past k =
-      ⊎_elim (λ lt. get_or-map test xs k d true lt ∙ first.1 k (omega arith))
-      (λ ge. get_or_past (map test xs) k true (rw (length-map xs test) ge)) (cases_lt k (length xs))
+-- the place of the first mark that is false
+pub first_false : (vs : List Bool) (r : Option ℕ) → r ≡ position not vs
+    → MatchOption r (AllTrue vs) (λ i. (get_or vs i true ≡ false) × ((k : ℕ) → k < i → get_or vs k true ≡ true))
+first_false vs None e = past vs (ltb-false _ _ (reaches _ (position_or_len not vs) (sym e)))
+first_false vs (Some i) e =
+    let at = position-Some not vs i true (sym e) in
+    (not_true (get_or vs i true) at.1, λ k l. not_false (get_or vs k true) (at.2 k l))

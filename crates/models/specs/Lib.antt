@@ -1,10 +1,12 @@
 pub mod Meaning
 pub mod MeaningLaws
+pub mod Tables
 pub mod Sound
 pub mod SoundLaws
 pub mod Refusals
+pub mod Laid
+pub mod Lent
 pub mod Table
 pub mod TableLaws
 pub mod Joined
 pub mod JoinedLaws
-pub mod Shown

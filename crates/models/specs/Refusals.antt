@@ -3,8 +3,10 @@
 --   place_of     the place that is out of range, if that is the reason
 --   Refused      the three tables make no model for this reason, and for none that is asked before it
 --   Checked      what a check of three tables answers; OnlyChecked says that no other answer fits
+--   outcome      the answer of a check that gives more than that its numbers pass
 --   Unjoinable   two models are not joined for this reason
-use Rattle.std.specs.Prelude.{◌≡◌, ℕ, ◌+◌, ◌<◌, List, ℤ, Some, None, Ok, Err, Option, Result}
+use Rattle.std.specs.Prelude.{◌≡◌, ℕ, ◌+◌, ◌<◌, Some, None, Ok, Err, Option, Result}
+use Rattle.models.specs.Tables.{Tables}
 use Rattle.models.specs.Sound.{Counts, Lengths, FirstOut, Sound}
 use Rattle.models.specs.declared.refusal.MakingRefusal.{MakingRefusal}
 use Rattle.models.specs.declared.refusal.MakingRefusal.TheVariants.{WrongCounts, WrongLengths, OutOfRange, TooManyScenarios}
@@ -21,20 +23,22 @@ place_of WrongLengths = None
 place_of (OutOfRange place) = Some place
 place_of TooManyScenarios = None
 
-abbrev pub Refused : ℕ → ℕ → ℕ → ℕ → List ℕ → List ℕ → List ℤ → MakingRefusal → Type 0
-Refused cells limit sets scenarios rs ts cs WrongCounts = Counts sets scenarios → ⊥
-Refused cells limit sets scenarios rs ts cs WrongLengths = Counts sets scenarios × (Lengths cells sets scenarios rs ts cs → ⊥)
-Refused cells limit sets scenarios rs ts cs (OutOfRange place) =
-    Counts sets scenarios × Lengths cells sets scenarios rs ts cs × FirstOut limit rs ts cs place
-Refused cells limit sets scenarios rs ts cs TooManyScenarios = ⊥
+abbrev pub Refused : ℕ → ℕ → Tables → MakingRefusal → Type 0
+Refused cells limit t WrongCounts = Counts t.sets t.scenarios → ⊥
+Refused cells limit t WrongLengths = Counts t.sets t.scenarios × (Lengths cells t → ⊥)
+Refused cells limit t (OutOfRange place) = Counts t.sets t.scenarios × Lengths cells t × FirstOut limit t place
+Refused cells limit t TooManyScenarios = ⊥
 
-abbrev pub Checked : ℕ → ℕ → ℕ → ℕ → List ℕ → List ℕ → List ℤ → Result (Unit {0}) MakingRefusal → Type 0
-Checked cells limit sets scenarios rs ts cs (Ok done) = Sound cells limit sets scenarios rs ts cs
-Checked cells limit sets scenarios rs ts cs (Err reason) = Refused cells limit sets scenarios rs ts cs reason
+abbrev pub Checked : ℕ → ℕ → Tables → Result (Unit {0}) MakingRefusal → Type 0
+Checked cells limit t (Ok done) = Sound cells limit t
+Checked cells limit t (Err reason) = Refused cells limit t reason
 
-abbrev pub OnlyChecked : ℕ → ℕ → ℕ → ℕ → List ℕ → List ℕ → List ℤ → Result (Unit {0}) MakingRefusal → Type 0
-OnlyChecked cells limit sets scenarios rs ts cs r =
-    (other : Result (Unit {0}) MakingRefusal) → Checked cells limit sets scenarios rs ts cs other → other ≡ r
+abbrev pub OnlyChecked : ℕ → ℕ → Tables → Result (Unit {0}) MakingRefusal → Type 0
+OnlyChecked cells limit t r = (other : Result (Unit {0}) MakingRefusal) → Checked cells limit t other → other ≡ r
+
+abbrev pub outcome : {X : Type 0} → Result X MakingRefusal → Result (Unit {0}) MakingRefusal
+outcome (Ok x) = Ok tt
+outcome (Err reason) = Err reason
 
 abbrev pub Unjoinable : ℕ → ℕ → MakingRefusal → Type 0
 Unjoinable first second reason = (reason ≡ TooManyScenarios) × (1000 < first + second)

@@ -1,58 +1,37 @@
 // The checks before a making. What passes one makes a model that nothing refuses.
-ghost use Rattle.std.specs.Prelude.{◌≡◌, ◌+◌, ◌*◌, ◌≤◌, pos, Decides, MatchOption, MatchResult, nat_le, unsigned_abs};
-ghost use Rattle.models.specs.Refusals.{Checked, OnlyChecked, Unjoinable};
-ghost use Rattle.models.specs.Sound.{Counts, Lengths, Ranges, FirstNot, FirstOut};
+ghost use Rattle.std.specs.Prelude.{◌≡◌, ◌+◌, ◌*◌, ◌≤◌, Decides, IfOk, MatchOption, MatchResult, not, position};
+ghost use Rattle.models.specs.Lent.{lent};
+ghost use Rattle.models.specs.Refusals.{Checked, OnlyChecked, outcome, Unjoinable};
+ghost use Rattle.models.specs.Sound.{Counts, Lengths, marks, Ranges, FirstOut};
 
+use super::layout::Layout;
+use super::numbers::{Lend, Numbers};
 use super::refusal::MakingRefusal;
+use super::sound::SoundNumbers;
+use std::marker::PhantomData;
 
-// The first place of a number above `most`, or the length.
-fn first_over(xs: &[u32], most: u32) -> usize
-    ensures { FirstNot (λ x. nat_le x most) 0 xs.now result }
+// The place of the first mark of a number that is out of range.
+fn first_mark(numbers: Numbers, limit: u32) -> Option<usize>
+    ensures { result ≡ position (λ fits. not fits) (marks limit (lent numbers.entry)) }
 {
-    for (i, x) in xs.iter().enumerate() {
-        if *x > most {
-            return i;
-        }
-    }
-    xs.len()
-}
-
-// The first place of a number further than `most` from 0, or the length.
-fn first_wide(xs: &[i32], most: u32) -> usize
-    ensures { FirstNot (λ x. nat_le (unsigned_abs x) most) (pos 0) xs.now result }
-{
-    for (i, x) in xs.iter().enumerate() {
-        if x.unsigned_abs() > most {
-            return i;
-        }
-    }
-    xs.len()
+    let changes = numbers.changes.iter().map(|x| x.unsigned_abs() <= limit);
+    let ticks = numbers.ticks.iter().map(|x| *x <= 100_000);
+    let rates = numbers.rates.iter().map(|x| *x <= 200_000);
+    rates.chain(ticks.chain(changes)).position(|fits| !fits)
 }
 
 // The first place, counted through the three tables, whose number is out of range.
-fn first_out(rates: &[u32], ticks: &[u32], changes: &[i32], limit: u32) -> Option<usize>
-    ensures { MatchOption result (Ranges limit rates.now ticks.now changes.now) (λ i. FirstOut limit rates.now ticks.now changes.now i) }
+fn first_out(numbers: Numbers, limit: u32) -> Option<usize>
+    ensures { MatchOption result (Ranges limit (lent numbers.entry)) (λ i. FirstOut limit (lent numbers.entry) i) }
 {
-    let rate = first_over(rates, 200_000);
-    if rate < rates.len() {
-        return Some(rate);
-    }
-    let tick = first_over(ticks, 100_000);
-    if tick < ticks.len() {
-        return Some(rates.len() + tick);
-    }
-    let change = first_wide(changes, limit);
-    if change < changes.len() {
-        return Some(rates.len() + (ticks.len() + change));
-    }
-    None
+    first_mark(numbers, limit)
 }
 
 // Whether a model may have so many sets and scenarios.
 pub fn counts_fit(sets: u32, scenarios: u32) -> bool
     ensures { Decides result (Counts sets scenarios) }
 {
-    1 <= sets && sets <= 8 && 1 <= scenarios && scenarios <= 1000
+    (1..=8).contains(&sets) && (1..=1000).contains(&scenarios)
 }
 
 // How many numbers the last table has.
@@ -64,59 +43,45 @@ fn volume(cells: u32, sets: u32, scenarios: u32) -> usize
 }
 
 // Whether the tables are as long as the counts ask.
-fn lengths_fit(
-    cells: u32,
-    sets: u32,
-    scenarios: u32,
-    rates: &[u32],
-    ticks: &[u32],
-    changes: &[i32],
-) -> bool
-    requires { Counts sets scenarios }
-    ensures { Decides result (Lengths cells sets scenarios rates.now ticks.now changes.now) }
+fn lengths_fit(cells: u32, numbers: Numbers) -> bool
+    requires { Counts numbers.sets numbers.scenarios }
+    ensures { Decides result (Lengths cells (lent numbers.entry)) }
 {
-    let size = cells as usize * sets as usize;
-    rates.len() == size && ticks.len() == size && changes.len() == volume(cells, sets, scenarios)
+    let size = cells as usize * numbers.sets as usize;
+    numbers.rates.len() == size
+        && numbers.ticks.len() == size
+        && numbers.changes.len() == volume(cells, numbers.sets, numbers.scenarios)
 }
 
-// Whether three tables make a model that has `cells` cells a set, and in its last table no number
-// further than `limit` from 0.
-pub fn check_numbers(
-    cells: u32,
-    limit: u32,
-    sets: u32,
-    scenarios: u32,
-    rates: &[u32],
-    ticks: &[u32],
-    changes: &[i32],
-) -> Result<(), MakingRefusal>
-    ensures answer { Checked cells limit sets scenarios rates.now ticks.now changes.now result }
-    ensures only { OnlyChecked cells limit sets scenarios rates.now ticks.now changes.now result }
+// Whether numbers make a model that has `cells` cells a set, and in its last table no number further
+// than `limit` from 0.
+pub fn check_numbers(cells: u32, limit: u32, numbers: Numbers) -> Result<(), MakingRefusal>
+    ensures answer { Checked cells limit (lent numbers.entry) result }
+    ensures only { OnlyChecked cells limit (lent numbers.entry) result }
 {
-    if !counts_fit(sets, scenarios) {
+    if !counts_fit(numbers.sets, numbers.scenarios) {
         return Err(MakingRefusal::WrongCounts);
     }
-    if !lengths_fit(cells, sets, scenarios, rates, ticks, changes) {
+    if !lengths_fit(cells, numbers) {
         return Err(MakingRefusal::WrongLengths);
     }
-    match first_out(rates, ticks, changes, limit) {
+    match first_out(numbers, limit) {
         Some(place) => Err(MakingRefusal::OutOfRange(place)),
         None => Ok(()),
     }
 }
 
-// Whether the tables make a table model: 484 cells a set, 121 residuals for each of 4 benchmarks.
-pub fn check_table(
-    sets: u32,
-    scenarios: u32,
-    rates: &[u32],
-    ticks: &[u32],
-    changes: &[i32],
-) -> Result<(), MakingRefusal>
-    ensures answer { Checked 484 2000000 sets scenarios rates.now ticks.now changes.now result }
-    ensures only { OnlyChecked 484 2000000 sets scenarios rates.now ticks.now changes.now result }
+// The same numbers, known to make a model of that layout, or why they make none.
+pub fn check<N: Lend + Drop, L: Layout>(numbers: N) -> Result<SoundNumbers<N, L>, MakingRefusal>
+    ensures answer { Checked L.CELLS L.LIMIT (N.tables numbers) (outcome result) }
+    ensures only { OnlyChecked L.CELLS L.LIMIT (N.tables numbers) (outcome result) }
+    ensures same { IfOk result (λ s. s.numbers ≡ numbers) }
 {
-    check_numbers(484, 2_000_000, sets, scenarios, rates, ticks, changes)
+    check_numbers(L::CELLS, L::LIMIT, numbers.lend())?;
+    Ok(SoundNumbers {
+        numbers,
+        layout: PhantomData,
+    })
 }
 
 // Whether two models of so many scenarios are joined with none left out.

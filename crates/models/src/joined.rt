@@ -5,6 +5,7 @@ ghost use Rattle.models.specs.JoinedLaws.{joint_lawful};
 
 use super::model::MarginModel;
 
+// Rates and tick values are two questions of the interface, and each passes its own on.
 #[derive(Drop)]
 pub struct Joined<F, S> {
     first: F,

@@ -3,6 +3,10 @@
 
 pub mod check;
 pub mod joined;
+pub mod laid;
+pub mod layout;
 pub mod model;
+pub mod numbers;
 pub mod refusal;
+pub mod sound;
 pub mod table;

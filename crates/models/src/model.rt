@@ -3,6 +3,8 @@
 ghost use Rattle.std.specs.Prelude.{◌≡◌};
 ghost use Rattle.models.specs.Meaning.{Meaning, Lawful, within};
 
+// Set, benchmark and residual stay three parameters: every make passes them on or asks one of them, so a
+// struct would be built at each call only to be taken apart.
 pub trait MarginModel {
     // What the model means.
     ghost meaning: { Self → Meaning };

@@ -2,7 +2,7 @@
 ghost use Rattle.std.specs.Prelude.{◌≡◌};
 ghost use Rattle.models.specs.Refusals.{number_of, place_of};
 
-#[derive(Clone, Copy)]
+#[derive(Clone, Copy, Debug, PartialEq, Eq)]
 pub enum MakingRefusal {
     // The counts of sets and scenarios are not within their limits.
     WrongCounts,
@@ -16,7 +16,7 @@ pub enum MakingRefusal {
 }
 
 impl MakingRefusal {
-    // The refusal's number.
+    // The refusal's number. A method and no `From`: a refusal is this number and a place.
     pub fn number(self) -> u32
         ensures { result ≡ number_of self }
     {

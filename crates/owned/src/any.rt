@@ -1,9 +1,11 @@
 // A model of whichever make.
-use super::owned_knots::OwnedKnots;
-use super::owned_table::OwnedTable;
+use super::owned_model::{OwnedKnots, OwnedTable};
 use models::joined::Joined;
 
 pub mod margin;
+
+// Two enums, each with its own methods: one generic enum of two makes would have no names for them, by
+// which a text and the definitions tell them apart.
 
 // A model that is not joined.
 #[derive(Drop)]

@@ -3,5 +3,4 @@
 
 pub mod any;
 pub mod making;
-pub mod owned_knots;
-pub mod owned_table;
+pub mod owned_model;

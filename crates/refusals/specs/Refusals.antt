@@ -1,7 +1,7 @@
 -- Refusals.
 -- number_of: the number of each. asked: one question. first_no: questions in their order, refused by the first no.
 -- decided: what a call does where every question is answered yes, and otherwise. result_number: 0, or the number of the first no.
-use Rattle.std.specs.Prelude.{ℕ, Bool, true, false, List, [], ◌∷◌, Ok, Err, Result}
+use Rattle.std.specs.Prelude.{ℕ, Bool, true, false, if◌then◌else◌, List, [], ◌∷◌, Ok, Err, Result}
 use Rattle.refusals.specs.declared.refusal.Refusal.{Refusal}
 use Rattle.refusals.specs.declared.refusal.Refusal.TheVariants.{Tables, NoAccount, WrongBenchmark, WrongSide, WrongNotional, WrongRate, WrongMaturity, NumberUsed, TooManyTrades, NotLower, NotCovered, NoTrade, WrongAmount, OverLimit, NotHeld, DrawnShort, NoSecurity, WrongLots, NoSet, WrongPrice, WrongStepUp, NoFamily, WrongAverages, WrongThresholds, WrongReturns, NoThresholds, WrongSlot, WrongMonth, WrongAccounts, WrongOpeningMonth}
 
@@ -47,7 +47,7 @@ Question = Bool × Refusal
 
 abbrev pub first_no : List Question → Result (Unit {0}) Refusal
 first_no [] = Ok tt
-first_no (q ∷ qs) = elim q.0 [ true ↦ first_no qs | false ↦ Err q.1 ]
+first_no (q ∷ qs) = if q.0 then first_no qs else Err q.1
 
 abbrev pub decided : {X : Type 0} → Result (Unit {0}) Refusal → X → (Refusal → X) → X
 decided (Ok x) accepted refused = accepted

@@ -2,106 +2,83 @@
 ghost use Rattle.std.specs.Prelude.{◌≡◌, is_ok};
 ghost use Rattle.refusals.specs.Refusals.{number_of, asked};
 
-#[derive(Clone, Copy)]
+#[derive(Clone, Copy, Debug, PartialEq, Eq)]
 pub enum Refusal {
     // The tables have not the right lengths, or a record or place is out of range.
-    Tables,
+    Tables = 1,
     // There is no such account.
-    NoAccount,
+    NoAccount = 2,
     // The benchmark is none of the four.
-    WrongBenchmark,
+    WrongBenchmark = 3,
     // The side is neither pay nor receive.
-    WrongSide,
+    WrongSide = 4,
     // The notional is not 1 to 1,000,000.
-    WrongNotional,
+    WrongNotional = 5,
     // The fixed rate is above 200,000.
-    WrongRate,
+    WrongRate = 6,
     // The maturity is before the current month or more than 120 months after it.
-    WrongMaturity,
+    WrongMaturity = 7,
     // A trade of the account has this number already.
-    NumberUsed,
+    NumberUsed = 8,
     // The account has 64 trades.
-    TooManyTrades,
+    TooManyTrades = 9,
     // The account is restricted, and its obligation would not be lower.
-    NotLower,
+    NotLower = 10,
     // What would be available does not reach the obligation.
-    NotCovered,
+    NotCovered = 11,
     // No trade of the account has this number.
-    NoTrade,
+    NoTrade = 12,
     // The amount is not 1 to 10^14.
-    WrongAmount,
+    WrongAmount = 13,
     // The account would hold more than it may.
-    OverLimit,
+    OverLimit = 14,
     // The account does not hold so much.
-    NotHeld,
+    NotHeld = 15,
     // What would be left does not reach the obligation.
-    DrawnShort,
+    DrawnShort = 16,
     // There is no such security.
-    NoSecurity,
+    NoSecurity = 17,
     // The lots are not 1 to 1,000,000.
-    WrongLots,
+    WrongLots = 18,
     // The model has no such set.
-    NoSet,
+    NoSet = 19,
     // Price, haircut or listing is out of range.
-    WrongPrice,
+    WrongPrice = 20,
     // The step-up is above 100.
-    WrongStepUp,
+    WrongStepUp = 21,
     // There is no such family.
-    NoFamily,
+    NoFamily = 22,
     // An average is not 1 to 10^16.
-    WrongAverages,
+    WrongAverages = 23,
     // A trigger or calm mark is out of range.
-    WrongThresholds,
+    WrongThresholds = 24,
     // A return is above 1,000,000.
-    WrongReturns,
+    WrongReturns = 25,
     // The family has no thresholds yet.
-    NoThresholds,
+    NoThresholds = 26,
     // The slot is not 1 to 4, or not above the last of the day.
-    WrongSlot,
+    WrongSlot = 27,
     // The month is not later than the current one, or above 1199.
-    WrongMonth,
+    WrongMonth = 28,
     // The accounts are not 1 to 32.
-    WrongAccounts,
+    WrongAccounts = 29,
     // The opening month is above 1199.
-    WrongOpeningMonth,
+    WrongOpeningMonth = 30,
 }
 
 impl Refusal {
     pub fn number(self) -> u8
         ensures { result ≡ number_of self }
     {
-        match self {
-            Refusal::Tables => 1,
-            Refusal::NoAccount => 2,
-            Refusal::WrongBenchmark => 3,
-            Refusal::WrongSide => 4,
-            Refusal::WrongNotional => 5,
-            Refusal::WrongRate => 6,
-            Refusal::WrongMaturity => 7,
-            Refusal::NumberUsed => 8,
-            Refusal::TooManyTrades => 9,
-            Refusal::NotLower => 10,
-            Refusal::NotCovered => 11,
-            Refusal::NoTrade => 12,
-            Refusal::WrongAmount => 13,
-            Refusal::OverLimit => 14,
-            Refusal::NotHeld => 15,
-            Refusal::DrawnShort => 16,
-            Refusal::NoSecurity => 17,
-            Refusal::WrongLots => 18,
-            Refusal::NoSet => 19,
-            Refusal::WrongPrice => 20,
-            Refusal::WrongStepUp => 21,
-            Refusal::NoFamily => 22,
-            Refusal::WrongAverages => 23,
-            Refusal::WrongThresholds => 24,
-            Refusal::WrongReturns => 25,
-            Refusal::NoThresholds => 26,
-            Refusal::WrongSlot => 27,
-            Refusal::WrongMonth => 28,
-            Refusal::WrongAccounts => 29,
-            Refusal::WrongOpeningMonth => 30,
-        }
+        self as u8
+    }
+}
+
+impl From<Refusal> for u8 {
+    ghost from_gives = { λ r n. n ≡ number_of r };
+
+    fn from(refusal: Refusal) -> u8 {
+        refusal.number()
     }
 }
 

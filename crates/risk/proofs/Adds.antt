@@ -1,9 +1,9 @@
 -- A row of losses, one trade more.
-use Rattle.std.proofs.Common.{◌≡◌, ℕ, ◌+◌, ◌<◌, ◌≤◌, List, length, get_or, take, drop, set, replicate, ℤ, pos, ◌+ℤ◌, nat_abs, sym, ap, ◌∙◌, ⊎_elim, arith, w64, SFits, to_z, of_z}
+use Rattle.std.proofs.Common.{◌≡◌, ℕ, ◌+◌, ◌<◌, ◌≤◌, List, length, get_or, take, set, replicate, ℤ, pos, ◌+ℤ◌, nat_abs, sym, ap, ◌∙◌, ⊎_elim, arith, w64, SFits, to_z, of_z}
 use Rattle.std.proofs.lemmas.Int.{to_z-of_z}
 use Rattle.std.proofs.lemmas.Bool.{cases_eq, cases_lt}
 use Rattle.std.proofs.lemmas.List.{get_or-set_same, get_or-set_other, get_or_past, get_or-take, get_or-replicate, length-take, length-replicate, length-take-le}
-use Rattle.std.proofs.ByRecursion.{All-take}
+use Rattle.std.proofs.lemmas.List.Elements.{All-take}
 use Rattle.std.proofs.lemmas.List.FromFn.{fill_by_all}
 use Rattle.models.specs.Meaning.{Meaning, Lawful}
 use Rattle.tables.specs.declared.row.TradeRow.{TradeRow}
@@ -58,12 +58,12 @@ module _ (m : Meaning) (d : Day) (ts : List TradeRow) (room : List ℤ) where
 nil_replicate : (n j : ℕ) → get_or (replicate n (pos 0)) j (pos 0) ≡ pos 0
 nil_replicate n j = ⊎_elim (λ lt. get_or-replicate n j (pos 0) (pos 0) lt) (λ past. get_or_past (replicate n (pos 0)) j (pos 0) (omega (arith, length-replicate n (pos 0)))) (cases_lt j n)
 
-pub nil_front : (n k j : ℕ) → get_or (take k (drop 0 (replicate n (pos 0)))) j (pos 0) ≡ pos 0
+pub nil_front : (n k j : ℕ) → get_or (take k (replicate n (pos 0))) j (pos 0) ≡ pos 0
 nil_front n k j =
     ⊎_elim
     (λ lt. get_or-take k (replicate n (pos 0)) j (pos 0) lt ∙ nil_replicate n j)
     (λ past. get_or_past (take k (replicate n (pos 0))) j (pos 0) (omega (arith, length-take k (replicate n (pos 0)))))
     (cases_lt j k)
 
-pub length_front : {X : Type 0} (n k : ℕ) (x : X) → k ≤ n → length (take k (drop 0 (replicate n x))) ≡ k
+pub length_front : {X : Type 0} (n k : ℕ) (x : X) → k ≤ n → length (take k (replicate n x)) ≡ k
 length_front n k x h = length-take-le k (replicate n x) (omega (arith, length-replicate n x))

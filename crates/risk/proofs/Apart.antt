@@ -1,13 +1,14 @@
 -- The groups of one grouping are apart, so that together they have no more trades than there are.
-use Rattle.std.proofs.Common.{◌≡◌, ℕ, zero, suc, ◌+◌, ◌*◌, ◌≤◌, true, cond, eqb, ltb, leb, List, [], ◌∷◌, length, pos, count_by, filter, sym, refl, ap, arith, rules}
+use Rattle.std.proofs.Common.{◌≡◌, ℕ, zero, suc, ◌+◌, ◌*◌, ◌≤◌, true, List, [], ◌∷◌, length, pos, count_by, filter, sym, refl, ap, arith, rules}
+use Rattle.std.specs.Prelude.{◌==◌, nat_lt, nat_le, if◌then◌else◌}
 use Rattle.std.proofs.lemmas.Bool.Decides.{nat_tests}
 use Rattle.std.proofs.lemmas.Bool.{le-ltb, le-leb, leb-true, and_parts, and_from}
 use Rattle.std.proofs.lemmas.List.Sums.{length-filter, count_by-le-length}
-use Rattle.std.proofs.ByRecursion.{all_kept_by}
+use Rattle.std.proofs.lemmas.List.Elements.{All-filter}
 use Rattle.tail.proofs.Kths.{count_cons}
 use Rattle.tables.specs.Limits.{trade_keeps, trades_stand}
-use Rattle.tables.specs.Lists.{all_by}
-use Rattle.tables.proofs.Alls.{all_from, all_by_kept}
+use Rattle.std.specs.List.{list_all}
+use Rattle.tables.proofs.Alls.{all_from, list_all_kept}
 use Rattle.models.specs.Meaning.{Meaning, Lawful}
 use Rattle.tables.specs.declared.row.TradeRow.{TradeRow}
 use Rattle.market.specs.declared.day.Day.{Day}
@@ -15,37 +16,37 @@ use Rattle.risk.specs.declared.grouping.Grouping.{Grouping}
 use Rattle.risk.specs.declared.grouping.Grouping.TheVariants.{ByBenchmark}
 use Rattle.risk.specs.Groups.{TradeFits, Standing, key_of, groups_of, in_group, group_trades}
 use Rattle.tables.specs.Numbers.{sum_below}
-use Rattle.tables.proofs.Numbers.{sum_more, sum_le, sum_nil}
+use Rattle.tables.proofs.Numbers.{sum_le, sum_nil}
 use Rattle.risk.specs.Losses.{var_of}
 use Rattle.risk.specs.Initial.{grouped_risk}
 use Rattle.risk.proofs.Risks.{var_most, var_none, var_still}
 
-one_more : (k n : ℕ) → cond (ltb k (suc n)) 1 0 ≡ cond (ltb k n) 1 0 + cond (eqb k n) 1 0
+one_more : (k n : ℕ) → (if nat_lt k (suc n) then 1 else 0) ≡ (if nat_lt k n then 1 else 0) + (if k == n then 1 else 0)
 one_more k n = grind (arith, nat_tests)
 
 module _ {X : Type 0} (key : X → ℕ) where
-  count_nought : (xs : List X) → count_by (λ x. ltb (key x) 0) xs ≡ 0
+  count_nought : (xs : List X) → count_by (λ x. nat_lt (key x) 0) xs ≡ 0
   count_nought [] = refl
-  count_nought (x ∷ xs) = omega (arith, count_cons (λ y. ltb (key y) 0) x xs, count_nought xs, ap (λ b. cond {A = ℕ} b 1 0) (le-ltb (key x) 0 (omega arith)))
+  count_nought (x ∷ xs) = omega (arith, count_cons (λ y. nat_lt (key y) 0) x xs, count_nought xs, ap {B = ℕ} (λ b. if b then 1 else 0) (le-ltb (key x) 0 (omega arith)))
 
-  count_upto : (n : ℕ) (xs : List X) → count_by (λ x. ltb (key x) (suc n)) xs ≡ count_by (λ x. ltb (key x) n) xs + count_by (λ x. eqb (key x) n) xs
+  count_upto : (n : ℕ) (xs : List X) → count_by (λ x. nat_lt (key x) (suc n)) xs ≡ count_by (λ x. nat_lt (key x) n) xs + count_by (λ x. key x == n) xs
   count_upto n [] = refl
   count_upto n (x ∷ xs) =
-      omega (arith, count_cons (λ y. ltb (key y) (suc n)) x xs, count_cons (λ y. ltb (key y) n) x xs, count_cons (λ y. eqb (key y) n) x xs, count_upto n xs, one_more (key x) n)
+      omega (arith, count_cons (λ y. nat_lt (key y) (suc n)) x xs, count_cons (λ y. nat_lt (key y) n) x xs, count_cons (λ y. key y == n) x xs, count_upto n xs, one_more (key x) n)
 
-  apart : (n : ℕ) (xs : List X) → sum_below (λ k. length (filter (λ x. eqb (key x) k) xs)) n ≡ count_by (λ x. ltb (key x) n) xs
+  apart : (n : ℕ) (xs : List X) → sum_below (λ k. length (filter (λ x. key x == k) xs)) n ≡ count_by (λ x. nat_lt (key x) n) xs
   unfolding sum_below
   apart zero xs = sym (count_nought xs)
-  apart (suc n) xs = omega (arith, apart n xs, count_upto n xs, length-filter (λ x. eqb (key x) n) xs)
+  apart (suc n) xs = omega (arith, apart n xs, count_upto n xs, length-filter (λ x. key x == n) xs)
 
-  pub apart_le : (n : ℕ) (xs : List X) → sum_below (λ k. length (filter (λ x. eqb (key x) k) xs)) n ≤ length xs
-  apart_le n xs = omega (arith, apart n xs, count_by-le-length (λ x. ltb (key x) n) xs)
+  pub apart_le : (n : ℕ) (xs : List X) → sum_below (λ k. length (filter (λ x. key x == k) xs)) n ≤ length xs
+  apart_le n xs = omega (arith, apart n xs, count_by-le-length (λ x. nat_lt (key x) n) xs)
 
 pub group_standing : (l : Grouping) (d : Day) (k : ℕ) (ts : List TradeRow) → Standing ts → Standing (group_trades l d k ts)
 unfolding group_trades
 group_standing l d k ts h = record {
   few = omega (arith, h.few, length-filter (in_group l d k) ts, count_by-le-length (in_group l d k) ts);
-  each = all_kept_by (in_group l d k) TradeFits ts h.each;
+  each = All-filter (in_group l d k) TradeFits ts h.each;
 }
 
 pub groups_few : (l : Grouping) (d : Day) (ts : List TradeRow) (n : ℕ) → sum_below (λ k. length (group_trades l d k ts)) n ≤ length ts
@@ -61,15 +62,6 @@ groups_most m d l ts n law h =
       sum_le (λ k. var_of m d (group_trades l d k ts)) (λ k. length (group_trades l d k ts)) n (λ k. var_most m d (group_trades l d k ts) law (group_standing l d k ts h).each),
     )
 
-pub grouped_most : (m : Meaning) (d : Day) (l : Grouping) (ts : List TradeRow) → Lawful m → Standing ts → grouped_risk m d l ts ≤ 2000000000000 * length ts
-unfolding grouped_risk
-grouped_most m d l ts law h = groups_most m d l ts (groups_of l) law h
-
--- two groups, one after the other
-pub pair_few : (l : Grouping) (d : Day) (ts : List TradeRow) (k : ℕ) → length (group_trades l d k ts) + length (group_trades l d (k + 1) ts) ≤ length ts
-pair_few l d ts k =
-    omega (arith, groups_few l d ts (k + 1 + 1), sum_more (λ i. length (group_trades l d i ts)) (k + 1), sum_more (λ i. length (group_trades l d i ts)) k)
-
 pub benchmarks_few : (d : Day) (ts : List TradeRow) → length (group_trades ByBenchmark d 0 ts) + length (group_trades ByBenchmark d 1 ts) + length (group_trades ByBenchmark d 2 ts) + length (group_trades ByBenchmark d 3 ts) ≤ length ts
 unfolding sum_below
 benchmarks_few d ts = omega (arith, groups_few ByBenchmark d ts 4)
@@ -80,16 +72,16 @@ fits t h = search rules
 
 pub standing : (ts : List TradeRow) → trades_stand ts ≡ true → Standing ts
 standing ts h =
-    let both = and_parts (leb (length ts) 64) (all_by trade_keeps ts) h in
+    let both = and_parts (nat_le (length ts) 64) (list_all trade_keeps ts) h in
     record { few = leb-true (length ts) 64 both.0; each = all_from trade_keeps TradeFits fits ts both.1 }
 
 pub group_stands : (g : Grouping) (d : Day) (k : ℕ) (ts : List TradeRow) → trades_stand ts ≡ true → trades_stand (group_trades g d k ts) ≡ true
 unfolding group_trades
 group_stands g d k ts h =
-    let both = and_parts (leb (length ts) 64) (all_by trade_keeps ts) h in
-    and_from (leb (length (filter (in_group g d k) ts)) 64) (all_by trade_keeps (filter (in_group g d k) ts))
+    let both = and_parts (nat_le (length ts) 64) (list_all trade_keeps ts) h in
+    and_from (nat_le (length (filter (in_group g d k) ts)) 64) (list_all trade_keeps (filter (in_group g d k) ts))
     (le-leb _ 64 (omega (arith, leb-true (length ts) 64 both.0, length-filter (in_group g d k) ts, count_by-le-length (in_group g d k) ts)))
-    (all_by_kept trade_keeps (in_group g d k) ts both.1)
+    (list_all_kept trade_keeps (in_group g d k) ts both.1)
 
 pub grouped_still : (m : Meaning) (d : Day) (g : Grouping) (ts : List TradeRow) → ((s b r i : ℕ) → m.change s b r i ≡ pos 0) → grouped_risk m d g ts ≡ 0
 unfolding grouped_risk

@@ -1,14 +1,13 @@
 -- The losses over the scenarios, their tail and its size.
-use Rattle.std.proofs.Common.{◌≡◌, ℕ, ◌+◌, ◌-◌, ◌*◌, ◌<◌, ◌≤◌, true, List, [], ◌∷◌, ◌++◌, length, get_or, take, ℤ, pos, ◌*ℤ◌, nat_abs, sym, refl, ap, ◌∙◌, subst, ⊎_elim, mul-zero, arith}
-use Rattle.std.specs.List.{ContainsAt, AllByRecursion}
+use Rattle.std.proofs.Common.{◌≡◌, ℕ, ◌-◌, ◌*◌, ◌<◌, ◌≤◌, true, List, [], length, get_or, ℤ, Some, None, Option, MatchOption, unwrap_or, pos, ◌*ℤ◌, nat_abs, sym, refl, ap, ◌∙◌, subst, ⊎_elim, mul-zero, arith}
+use Rattle.std.specs.List.{ContainsAt, All}
 use Rattle.std.proofs.lemmas.Int.{ints}
 use Rattle.std.proofs.lemmas.Bool.{cases_lt}
-use Rattle.std.proofs.lemmas.List.{get_or_default, get_or_past, take_all}
-use Rattle.std.proofs.ByRecursion.{All-weaker, All-get_or, all-has, All-from_get_or}
+use Rattle.std.proofs.lemmas.List.{get_or_default, get_or_past}
+use Rattle.std.proofs.lemmas.List.Elements.{All-weaker, All-get_or, All-contains, All-from_get_or, All-from_recursion, Contains-from_at}
 use Rattle.std.proofs.lemmas.List.FromFn.{length-map-range_with_len, get_or-map-range_with_len}
-use Rattle.tail.specs.Tail.{Holds, ranked}
-use Rattle.tail.specs.Tail.{reaches_loss}
-use Rattle.tail.proofs.Kths.{holds_more, holds_all, last_held, kth_from_ranked, among_ranked, length_ranked}
+use Rattle.tail.specs.Tail.{Short, ranked, reaches_loss}
+use Rattle.tail.proofs.Kths.{kth_from_ranked, among_ranked, length_ranked}
 use Rattle.tail.proofs.Orders.{loss_orders}
 use Rattle.models.specs.Meaning.{Meaning, Lawful}
 use Rattle.risk.proofs.Sizes.{size_neg, size_times, times_most}
@@ -20,9 +19,15 @@ use Rattle.tables.specs.Limits.{no_trade}
 use Rattle.tables.specs.declared.codes.Side.{Side}
 use Rattle.tables.specs.declared.codes.Side.TheVariants.{Pay, Receive}
 use Rattle.market.specs.Days.{residual_of}
-use Rattle.risk.specs.Signs.{gain_of, negated_for_pay}
+use Rattle.risk.specs.Signs.{gain_of, negated_for}
 use Rattle.risk.specs.Losses.{leg_of, loss_of, losses_of, tail_size, tail_loss, var_of, AtRisk}
 use Rattle.risk.proofs.Signs.{sum_most, gain_le}
+
+-- the k-th highest, or 0 where there is none
+pub kth_or_nil : (xs : List ℤ) (k : ℕ) (o : Option ℤ) → 1 ≤ k → MatchOption o (Short k xs) (λ l. (d : ℤ) → l ≡ get_or (ranked reaches_loss xs) (k - 1) d) → unwrap_or o (pos 0) ≡ get_or (ranked reaches_loss xs) (k - 1) (pos 0)
+kth_or_nil xs k None some short =
+    sym (get_or_past (ranked reaches_loss xs) (k - 1) (pos 0) (⊎_elim (λ none. omega arith) (λ few. omega (arith, length_ranked reaches_loss xs)) short))
+kth_or_nil xs k (Some l) some is = is (pos 0)
 
 module _ (m : Meaning) (d : Day) (ts : List TradeRow) where
   pub length_losses : length (losses_of m d ts) ≡ m.scenarios
@@ -33,31 +38,10 @@ module _ (m : Meaning) (d : Day) (ts : List TradeRow) where
   unfolding losses_of
   getD_losses j e h = get_or-map-range_with_len (λ i. loss_of m d i ts) 0 m.scenarios j j e h (omega arith)
 
-  -- a scenario more; y is the loss as it was passed
-  pub tail_more : (j : ℕ) (x y : ℤ) (f r : ℕ) (ps qs : List ℤ) → j < m.scenarios → x ≡ loss_of m d j ts → y ≡ x → ((ys : List ℤ) → Holds reaches_loss ys f ps → Holds reaches_loss (ys ++ y ∷ []) r qs) → Holds reaches_loss (take j (losses_of m d ts)) f ps → Holds reaches_loss (take (j + 1) (losses_of m d ts)) r qs
-  tail_more j x y f r ps qs lt is passed step h =
-      holds_more reaches_loss (losses_of m d ts) j y f r ps qs (omega (arith, length_losses)) (passed ∙ is ∙ sym (getD_losses j y lt)) step h
-
-  -- every place is filled once the loop has ended
-  pub tail_full : (ps : List ℤ) (f j : ℕ) → length ps ≡ tail_size m.scenarios → 1 ≤ m.scenarios → m.scenarios ≤ j → Holds reaches_loss (take j (losses_of m d ts)) f ps → f ≡ tail_size m.scenarios
-  tail_full ps f j len some past h =
-      let all : Holds reaches_loss (losses_of m d ts) f ps = holds_all reaches_loss (losses_of m d ts) j f ps (omega (arith, length_losses)) h in
-      let c = all.count in
-      omega (arith, length_losses)
-
-  pub tail_is : (ps : List ℤ) (f j : ℕ) → length ps ≡ tail_size m.scenarios → 1 ≤ m.scenarios → m.scenarios ≤ j → Holds reaches_loss (take j (losses_of m d ts)) f ps → get_or ps (f - 1) (pos 0) ≡ tail_loss m d ts
+  -- the lowest of the tail, out of losses that a loop filled
+  pub tail_from : (xs : List ℤ) (n : ℕ) (x : ℤ) → xs ≡ losses_of m d ts → n ≡ tail_size m.scenarios → x ≡ get_or (ranked reaches_loss xs) (n - 1) (pos 0) → x ≡ tail_loss m d ts
   unfolding tail_loss
-  tail_is ps f j len some past h =
-      let all : Holds reaches_loss (losses_of m d ts) f ps = holds_all reaches_loss (losses_of m d ts) j f ps (omega (arith, length_losses)) h in
-      let full = tail_full ps f j len some past h in
-      let l = get_or ps (f - 1) (pos 0) in
-      last_held reaches_loss (losses_of m d ts) ps f (tail_size m.scenarios) l all len full (omega arith) (get_or_default ps (f - 1) (pos 0) l (omega arith)) (pos 0)
-
-  -- the same, of all the losses at once
-  pub tail_all : (xs ps : List ℤ) (f : ℕ) → xs ≡ losses_of m d ts → length ps ≡ tail_size m.scenarios → 1 ≤ m.scenarios → Holds reaches_loss xs f ps → (f ≡ tail_size m.scenarios) × (get_or ps (f - 1) (pos 0) ≡ tail_loss m d ts)
-  tail_all xs ps f is len some all =
-      let whole : Holds reaches_loss (take m.scenarios (losses_of m d ts)) f ps = subst (λ u. Holds reaches_loss u f ps) (is ∙ sym (take_all m.scenarios (losses_of m d ts) (omega (arith, length_losses)))) all in
-      (tail_full ps f m.scenarios len some (omega arith) whole, tail_is ps f m.scenarios len some (omega arith) whole)
+  tail_from xs n x filled size is = cc
 
   -- the value at risk is what its words say
   pub at_risk : Lawful m → AtRisk m d ts (var_of m d ts)
@@ -73,18 +57,18 @@ module _ (m : Meaning) (d : Day) (ts : List TradeRow) where
       }
 
   -- what holds of 0 and of each loss holds of the lowest of the tail
-  tail_has : (P : ℤ → Type 0) → P (pos 0) → AllByRecursion P (losses_of m d ts) → P (tail_loss m d ts)
+  tail_has : (P : ℤ → Type 0) → P (pos 0) → All P (losses_of m d ts) → P (tail_loss m d ts)
   unfolding tail_loss
   tail_has P nil each =
       let rs = ranked reaches_loss (losses_of m d ts) in
       let k = tail_size m.scenarios - 1 in
-      let all : AllByRecursion P rs = All-weaker (ContainsAt (losses_of m d ts)) P (λ z h. all-has P (losses_of m d ts) z each h) rs (among_ranked reaches_loss (losses_of m d ts)) in
+      let all : All P rs = All-weaker (ContainsAt (losses_of m d ts)) P (λ z h. All-contains P (losses_of m d ts) z each (Contains-from_at (losses_of m d ts) z h)) rs (All-from_recursion (ContainsAt (losses_of m d ts)) rs (among_ranked reaches_loss (losses_of m d ts))) in
       ⊎_elim (λ lt. All-get_or P rs k (pos 0) lt all) (λ past. subst P (sym (get_or_past rs k (pos 0) past)) nil) (cases_lt k (length rs))
 
-  each_loss : (P : ℤ → Type 0) → ((j : ℕ) → P (loss_of m d j ts)) → AllByRecursion P (losses_of m d ts)
+  each_loss : (P : ℤ → Type 0) → ((j : ℕ) → P (loss_of m d j ts)) → All P (losses_of m d ts)
   each_loss P h = All-from_get_or P (losses_of m d ts) (pos 0) (λ j lt. subst P (sym (getD_losses j (pos 0) (omega (arith, length_losses)))) (h j))
 
-side_size : (s : Side) (z : ℤ) → nat_abs (negated_for_pay s z) ≡ nat_abs z
+side_size : (s : Side) (z : ℤ) → nat_abs (negated_for Pay s z) ≡ nat_abs z
 side_size Pay z = size_neg z
 side_size Receive z = refl
 
@@ -92,13 +76,13 @@ leg_most : (m : Meaning) (d : Day) (j : ℕ) (t : TradeRow) → Lawful m → Tra
 leg_most m d j t law fit =
     let z = m.change d.set t.benchmark (residual_of d t) j in
     let e = side_size (side_of t.side) (pos t.notional *ℤ z) in
-    omega (arith, e, times_most t.notional z fit.0 (law.change_most _ _ _ _))
+    omega (arith, e, times_most t.notional z fit.0, law.change_most d.set t.benchmark (residual_of d t) j)
 
-pub loss_most : (m : Meaning) (d : Day) (j : ℕ) (ts : List TradeRow) → Lawful m → AllByRecursion TradeFits ts → nat_abs (loss_of m d j ts) ≤ 2000000000000 * length ts
+pub loss_most : (m : Meaning) (d : Day) (j : ℕ) (ts : List TradeRow) → Lawful m → All TradeFits ts → nat_abs (loss_of m d j ts) ≤ 2000000000000 * length ts
 loss_most m d j ts law fits =
     sum_most (leg_of m d j) 2000000000000 ts (All-weaker TradeFits (λ t. nat_abs (leg_of m d j t) ≤ 2000000000000) (λ t fit. leg_most m d j t law fit) ts fits)
 
-pub var_most : (m : Meaning) (d : Day) (ts : List TradeRow) → Lawful m → AllByRecursion TradeFits ts → var_of m d ts ≤ 2000000000000 * length ts
+pub var_most : (m : Meaning) (d : Day) (ts : List TradeRow) → Lawful m → All TradeFits ts → var_of m d ts ≤ 2000000000000 * length ts
 unfolding var_of
 var_most m d ts law fits =
     let size : nat_abs (tail_loss m d ts) ≤ 2000000000000 * length ts = tail_has m d ts (λ z. nat_abs z ≤ 2000000000000 * length ts) (omega arith) (each_loss m d ts (λ z. nat_abs z ≤ 2000000000000 * length ts) (λ j. loss_most m d j ts law fits)) in

@@ -2,8 +2,7 @@
 -- TradeFits, Standing: trades within their limits, at most 64.
 -- key_of: the group of a trade, by residual, by half-year bucket or by benchmark. groups_of: how many groups there are.
 -- group_trades: the trades of one group, in their order.
-use Rattle.std.specs.Prelude.{ℕ, ◌/◌, ◌≤◌, min, Bool, List, length, filter, ◌==◌}
-use Rattle.std.specs.List.{AllByRecursion}
+use Rattle.std.specs.Prelude.{ℕ, ◌/◌, ◌≤◌, min, Bool, List, All, length, filter, ◌==◌}
 use Rattle.tables.specs.declared.row.TradeRow.{TradeRow}
 use Rattle.market.specs.declared.day.Day.{Day}
 use Rattle.market.specs.Days.{residual_of}
@@ -15,7 +14,7 @@ TradeFits t = (t.notional ≤ 1000000) × (t.rate ≤ 200000)
 
 pub record Standing (ts : List TradeRow) : Type 0 where
   pub few : length ts ≤ 64
-  pub each : AllByRecursion TradeFits ts
+  pub each : All TradeFits ts
 
 -- residual 120 joins the last of the twenty half-year buckets
 abbrev pub key_of : Grouping → Day → TradeRow → ℕ

@@ -2,10 +2,11 @@
 -- grouped_risk: the values at risk of the groups, added up (X by residual, Z by half-year bucket).
 -- spread_of: the spread charge. band_rate, weight_of, minimum_of: the minimum margin.
 -- stepped_up: with the step-up. initial_of: the initial margin. risk_of: all of these as one record.
-use Rattle.std.specs.Prelude.{ℕ, ◌+◌, ◌-◌, ◌*◌, max, cond, List, ℤ, pos, ◌*ℤ◌, nat_le, unsigned_abs}
+use Rattle.std.specs.Prelude.{ℕ, ◌+◌, ◌-◌, ◌*◌, max, List, ℤ, pos, ◌*ℤ◌, nat_le, unsigned_abs, if◌then◌else◌}
 use Rattle.models.specs.Meaning.{Meaning}
 use Rattle.tables.specs.Codes.{side_of}
 use Rattle.tables.specs.Numbers.{sum_below, rounded_up}
+use Rattle.tables.specs.declared.codes.Side.TheVariants.{Receive}
 use Rattle.tables.specs.declared.row.TradeRow.{TradeRow}
 use Rattle.market.specs.declared.day.Day.{Day}
 use Rattle.market.specs.Days.{residual_of}
@@ -13,7 +14,7 @@ use Rattle.risk.specs.declared.grouping.Grouping.{Grouping}
 use Rattle.risk.specs.declared.grouping.Grouping.TheVariants.{ByResidual, ByHalfYear}
 use Rattle.risk.specs.declared.figures.RiskFigures.{RiskFigures}
 use Rattle.risk.specs.Groups.{group_trades, groups_of}
-use Rattle.risk.specs.Signs.{signed_sum, negated_for_receive}
+use Rattle.risk.specs.Signs.{signed_sum, negated_for}
 use Rattle.risk.specs.Losses.{var_of}
 
 unfoldable pub grouped_risk : Meaning → Day → Grouping → List TradeRow → ℕ
@@ -25,10 +26,10 @@ spread_of x z y = rounded_up (2 * (x - z) + (z - y)) 10
 
 -- paise for each lakh, by residual
 abbrev pub band_rate : ℕ → ℕ
-band_rate r = cond (nat_le r 36) 50000 (cond (nat_le r 60) 100000 175000)
+band_rate r = if nat_le r 36 then 50000 else (if nat_le r 60 then 100000 else 175000)
 
 abbrev pub weight_of : Day → TradeRow → ℤ
-weight_of d t = negated_for_receive (side_of t.side) (pos t.notional *ℤ pos (band_rate (residual_of d t)))
+weight_of d t = negated_for Receive (side_of t.side) (pos t.notional *ℤ pos (band_rate (residual_of d t)))
 
 -- the size of a signed sum, pay plus and receive minus
 unfoldable pub minimum_of : Day → List TradeRow → ℕ

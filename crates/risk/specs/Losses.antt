@@ -7,14 +7,15 @@ use Rattle.std.specs.List.{range_with_len}
 use Rattle.tail.specs.Tail.{ranked, reaches_loss, Kth}
 use Rattle.models.specs.Meaning.{Meaning}
 use Rattle.tables.specs.Codes.{side_of}
+use Rattle.tables.specs.declared.codes.Side.TheVariants.{Pay}
 use Rattle.tables.specs.declared.row.TradeRow.{TradeRow}
 use Rattle.market.specs.declared.day.Day.{Day}
 use Rattle.market.specs.Days.{residual_of}
-use Rattle.risk.specs.Signs.{signed_sum, negated_for_pay, gain_of}
+use Rattle.risk.specs.Signs.{signed_sum, negated_for, gain_of}
 
 -- the change is what one lakh of a pay-fixed swap gains
 abbrev pub leg_of : Meaning → Day → ℕ → TradeRow → ℤ
-leg_of m d j t = negated_for_pay (side_of t.side) (pos t.notional *ℤ m.change d.set t.benchmark (residual_of d t) j)
+leg_of m d j t = negated_for Pay (side_of t.side) (pos t.notional *ℤ m.change d.set t.benchmark (residual_of d t) j)
 
 abbrev pub loss_of : Meaning → Day → ℕ → List TradeRow → ℤ
 loss_of m d j ts = signed_sum (leg_of m d j) ts

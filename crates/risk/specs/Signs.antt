@@ -1,18 +1,16 @@
 -- Signed money.
--- negated_for_pay, negated_for_receive: a flow as one side has it.
+-- negated_for: a flow, negated for trades on one side.
 -- gain_of, lost_of: what of a sum is above 0, and what is below.
 -- signed_sum: a sum over a list.
 use Rattle.std.specs.Prelude.{ℕ, suc, List, ℤ, pos, negsuc, ◌+ℤ◌, neg_ℤ, fold}
 use Rattle.tables.specs.declared.codes.Side.{Side}
 use Rattle.tables.specs.declared.codes.Side.TheVariants.{Pay, Receive}
 
-abbrev pub negated_for_pay : Side → ℤ → ℤ
-negated_for_pay Pay z = neg_ℤ z
-negated_for_pay Receive z = z
-
-abbrev pub negated_for_receive : Side → ℤ → ℤ
-negated_for_receive Pay z = z
-negated_for_receive Receive z = neg_ℤ z
+abbrev pub negated_for : Side → Side → ℤ → ℤ
+negated_for Pay Pay z = neg_ℤ z
+negated_for Pay Receive z = z
+negated_for Receive Pay z = z
+negated_for Receive Receive z = neg_ℤ z
 
 abbrev pub gain_of : ℤ → ℕ
 gain_of (pos n) = n

@@ -1,4 +1,4 @@
-// By what trades are put into groups.
+// By what trades are put into groups. An enum and no closure: the rules name these three, and definitions go by them.
 ghost use Rattle.std.specs.Prelude.{◌≡◌};
 ghost use Rattle.risk.specs.Groups.{key_of, groups_of};
 

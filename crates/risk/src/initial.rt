@@ -1,55 +1,46 @@
 // The initial margin of the trades of one benchmark, step by step.
 ghost use Rattle.std.specs.Prelude.{◌≡◌, ◌*◌, ◌≤◌, length, pos, unsigned_abs};
-ghost use Rattle.risk.specs.Groups.{Standing, TradeFits, group_trades};
+ghost use Rattle.risk.specs.Groups.{group_trades};
 ghost use Rattle.risk.specs.Losses.{var_of};
 ghost use Rattle.risk.specs.Initial.{grouped_risk, spread_of, band_rate, weight_of, minimum_of, stepped_up};
 
-use super::flows::{negated_for_receive, times};
 use super::gather::gather;
 use super::grouping::Grouping;
-use super::losses::value_at_risk;
+use super::quotes::Quotes;
+use super::trade::Trade;
 use market::day::Day;
 use models::model::MarginModel;
 use tables::codes::Side;
-use tables::row::{NO_TRADE, TradeRow};
+use tables::row::NO_TRADE;
+use tables::standing::StandingTrades;
 
 // The residuals at which the first two bands end, and what each band's lakh counts, in paise.
 const BAND_ENDS: [u32; 2] = [36, 60];
 
 const BAND_RATES: [i32; 3] = [50_000, 100_000, 175_000];
 
-// The value at risk of the trades of a group.
-fn group_risk<M: MarginModel>(
-    model: &M,
-    day: Day,
-    grouping: Grouping,
-    key: u32,
-    trades: &[TradeRow],
-) -> u64
-    requires { Standing trades.now }
-    ensures { result ≡ var_of (M.meaning model.now) day (group_trades grouping day key trades.now) }
-{
-    let mut room = [NO_TRADE; 64];
-    let count = gather(grouping, day, key, trades, &mut room);
-    value_at_risk(model, day, &room[0..count])
-}
-
-// The values at risk of the groups, added up.
-pub(crate) fn sum_group_risks<M: MarginModel>(
-    model: &M,
-    day: Day,
-    grouping: Grouping,
-    trades: &[TradeRow],
-) -> u64
-    requires { Standing trades.now }
-    ensures value { result ≡ grouped_risk (M.meaning model.now) day grouping trades.now }
-    ensures bound { result ≤ 2000000000000 * length trades.now }
-{
-    let mut sum = 0;
-    for key in 0..grouping.groups() {
-        sum += group_risk(model, day, grouping, key, trades);
+impl<'a, M: MarginModel> Quotes<'a, M> {
+    // The value at risk of the trades of a group.
+    fn group_risk(&self, grouping: Grouping, key: u32, trades: StandingTrades) -> u64
+        ensures { result ≡ var_of (M.meaning self.now.model.now) self.now.day (group_trades grouping self.now.day key trades.entry.trades.now) }
+    {
+        let mut room = [NO_TRADE; 64];
+        let group = gather(grouping, self.day, key, trades, &mut room);
+        self.value_at_risk(group)
     }
-    sum
+
+    // The values at risk of the groups, added up.
+    #[tactic(auto, unfolding(crate::specs::Initial::grouped_risk, tables::specs::Numbers::sum_below))]
+    pub(crate) fn sum_group_risks(&self, grouping: Grouping, trades: StandingTrades) -> u64
+        ensures value { result ≡ grouped_risk (M.meaning self.now.model.now) self.now.day grouping trades.entry.trades.now }
+        ensures bound { result ≤ 2000000000000 * length trades.entry.trades.now }
+    {
+        let mut sum = 0;
+        for key in 0..grouping.groups() {
+            sum += self.group_risk(grouping, key, trades);
+        }
+        sum
+    }
 }
 
 // The spread charge: x by residual, z by half-year bucket, y as a whole.
@@ -65,34 +56,28 @@ fn rate_of_band(residual: u32) -> i32
     ensures value { result ≡ pos (band_rate residual) }
     ensures bound { unsigned_abs result ≤ 2000000 }
 {
-    if residual <= BAND_ENDS[0] {
-        BAND_RATES[0]
-    } else if residual <= BAND_ENDS[1] {
-        BAND_RATES[1]
-    } else {
-        BAND_RATES[2]
-    }
+    let band = BAND_ENDS.partition_point(|end| *end < residual);
+    BAND_RATES[band]
 }
 
 // What a trade adds to the signed sum of the minimum margin.
-fn weight(day: Day, trade: &TradeRow) -> i64
-    requires { TradeFits trade.now }
-    ensures value { result ≡ weight_of day trade.now }
+fn weight(day: Day, trade: Trade) -> i64
+    ensures value { result ≡ weight_of day trade.entry.row.now }
     ensures bound { unsigned_abs result ≤ 2000000000000 }
 {
-    let each = rate_of_band(day.residual(trade));
-    negated_for_receive(Side::of(trade.side), times(trade.notional, each))
+    let each = rate_of_band(day.residual(trade.row));
+    trade.flow(Side::Receive, each)
 }
 
-// The minimum margin of the trades.
-pub(crate) fn minimum_margin(day: Day, trades: &[TradeRow]) -> u64
-    requires { Standing trades.now }
-    ensures value { result ≡ minimum_of day trades.now }
-    ensures bound { result ≤ 2000000000000 * length trades.now }
+// The minimum margin of the trades. A `for`: nothing bounds the signed sum of a chain.
+#[tactic(auto, unfolding(crate::specs::Initial::minimum_of))]
+pub(crate) fn minimum_margin(day: Day, trades: StandingTrades) -> u64
+    ensures value { result ≡ minimum_of day trades.entry.trades.now }
+    ensures bound { result ≤ 2000000000000 * length trades.entry.trades.now }
 {
     let mut sum = 0i64;
-    for trade in trades {
-        sum += weight(day, trade);
+    for trade in trades.rows() {
+        sum += weight(day, Trade::new(trade));
     }
     sum.unsigned_abs()
 }

@@ -2,9 +2,10 @@
 #![tactic(auto)]
 
 pub mod figures;
-mod flows;
 pub mod gather;
 pub mod grouping;
 mod initial;
 mod losses;
 pub mod money;
+pub mod quotes;
+pub mod trade;

@@ -1,4 +1,4 @@
-// What of a signed sum is above 0, and what is below.
+// What of a signed sum is above 0, and what is below. Two functions: one of them at `-sum` would not take every sum.
 ghost use Rattle.std.specs.Prelude.{◌≡◌};
 ghost use Rattle.risk.specs.Signs.{gain_of, lost_of};
 

@@ -1,6 +1,8 @@
 -- Empty accounts: the books that an opening leaves, and that they rest.
-use Rattle.std.proofs.Common.{◌≡◌, ℕ, zero, suc, ◌+◌, ◌*◌, false, List, [], ◌∷◌, map, take, drop, replicate, pos, fold, sym, refl, ap, ◌∙◌, ap₂, arith, take_at, drop_at}
-use lib.ListN.{length-replicate, replicate-append-replicate}
+use Rattle.std.proofs.Common.{◌≡◌, ℕ, zero, suc, ◌-◌, ◌*◌, false, List, [], ◌∷◌, map, take, drop, replicate, pos, refl, ap, ◌∙◌, ap₂, arith}
+use Rattle.std.proofs.lemmas.List.{take-replicate, drop-replicate}
+use Rattle.std.proofs.lemmas.List.Elements.{All-replicate}
+use Rattle.std.proofs.lemmas.List.Folds.{map_fixed, sum_by-replicate}
 use Rattle.models.specs.Meaning.{Meaning}
 use Rattle.tables.specs.declared.codes.Benchmark.{Benchmark}
 use Rattle.tables.specs.declared.row.AccountRow.{AccountRow}
@@ -24,22 +26,17 @@ use Rattle.margins.specs.Marks.{marks_of}
 use Rattle.rules.specs.Opening.{empty_row, opened_market, opened_rows, opened_trades, quiet_family}
 use Rattle.rules.specs.Rows.{with_second}
 use Rattle.rules.specs.Settling.{figured_row, settled_row, house_settled, reflagged}
-use Rattle.rules.specs.Stands.{Stand, stand_of, finish}
+use Rattle.rules.specs.Stands.{Stand, stand_of, shortfalls, finish}
 
 abbrev pub empty_book : Book
 empty_book = book empty_row (replicate 64 no_trade)
 
 take_empty : (n : ℕ) → take 64 (replicate (64 * suc n) no_trade) ≡ replicate 64 no_trade
-take_empty n =
-    let e : 64 * suc n ≡ 64 + 64 * n = omega arith in
-    ap (λ (k : ℕ). take 64 (replicate k no_trade)) e ∙ ap (take 64) (sym (replicate-append-replicate 64 (64 * n) no_trade))
-    ∙ take_at (replicate 64 no_trade) (replicate (64 * n) no_trade) 64 (length-replicate 64 no_trade)
+take_empty n = take-replicate 64 (64 * suc n) no_trade (omega arith)
 
 drop_empty : (n : ℕ) → drop 64 (replicate (64 * suc n) no_trade) ≡ replicate (64 * n) no_trade
 drop_empty n =
-    let e : 64 * suc n ≡ 64 + 64 * n = omega arith in
-    ap (λ (k : ℕ). drop 64 (replicate k no_trade)) e ∙ ap (drop 64) (sym (replicate-append-replicate 64 (64 * n) no_trade))
-    ∙ drop_at (replicate 64 no_trade) (replicate (64 * n) no_trade) 64 (length-replicate 64 no_trade)
+    let rest : 64 * suc n - 64 ≡ 64 * n = omega arith in drop-replicate 64 (64 * suc n) no_trade ∙ ap (λ (k : ℕ). replicate k no_trade) rest
 
 -- the books of n empty accounts
 pub books_empty : (n : ℕ) → books_of (opened_rows n) (opened_trades n) ≡ replicate n empty_book
@@ -86,13 +83,12 @@ unfolding empty_row
 flag_empty = refl
 
 flags_empty : (n : ℕ) → map (reflagged false) (replicate n empty_book) ≡ replicate n empty_book
-flags_empty zero = refl
-flags_empty (suc n) = ap₂ (λ (b : Book) (l : List Book). b ∷ l) flag_empty (flags_empty n)
+flags_empty n =
+    map_fixed (reflagged false) (replicate n empty_book) (All-replicate (λ (b : Book). reflagged false b ≡ b) n empty_book flag_empty)
 
-sum_empty : (n : ℕ) → fold (λ (x : ℕ) (b : Book). x + b.row.shortfall) 0 (replicate n empty_book) ≡ 0
+sum_empty : (n : ℕ) → shortfalls (replicate n empty_book) ≡ 0
 unfolding empty_row
-sum_empty zero = refl
-sum_empty (suc n) = sum_empty n
+sum_empty n = let none : n * 0 ≡ 0 = omega arith in sum_by-replicate (λ (b : Book). b.row.shortfall) n empty_book ∙ none
 
 flagged : (month n : ℕ) → ◌≡◌ {A = Stand} (record { market = opened_market month; house = empty_book; constituents = map (reflagged empty_book.row.own) (replicate n empty_book) }) (stand_of (opened_market month) (replicate (suc n) empty_book))
 unfolding empty_row

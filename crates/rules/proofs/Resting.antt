@@ -1,5 +1,6 @@
 -- What is settled rests: settling once more changes nothing.
-use Rattle.std.proofs.Common.{◌≡◌, ℕ, ◌+◌, ◌-◌, Bool, false, List, [], ◌∷◌, map, fold, refl, ap, ◌∙◌, ap₂}
+use Rattle.std.proofs.Common.{◌≡◌, ℕ, ◌+◌, Bool, false, List, [], ◌∷◌, map, refl, ap, ◌∙◌, ap₂}
+use Rattle.std.proofs.lemmas.List.Folds.{fold-map}
 use Rattle.models.specs.Meaning.{Meaning}
 use Rattle.tables.specs.declared.row.AccountRow.{AccountRow}
 use Rattle.tables.specs.declared.row.TradeRow.{TradeRow}
@@ -20,18 +21,7 @@ same_figures m k cover r f ts = refl
 
 -- the house's record as it settles, with the own flag b
 abbrev made : ℕ → AccountRow → Figures → Bool → AccountRow
-made cover r f b = record {
-  cash = r.cash;
-  obligation = f.obligation + cover;
-  available = f.available;
-  shortfall = f.obligation + cover - f.available;
-  lots = r.lots;
-  overnight = f.overnight.levels;
-  forward = f.forward.levels;
-  trades = r.trades;
-  own = b;
-  second = false;
-}
+made cover r f b = record (figured_row cover r f) { own = b; second = false }
 
 row_rests : (m : Meaning) (k : MarketState) (cover : ℕ) (r : AccountRow) (ts : List TradeRow) → with_second (settled_row m k cover (with_second (settled_row m k cover r ts) false) ts) false ≡ with_second (settled_row m k cover r ts) false
 unfolding settled_row
@@ -52,19 +42,15 @@ flags_rest : (r : Bool) (bs : List Book) → map (reflagged r) (map (reflagged r
 flags_rest r [] = refl
 flags_rest r (b ∷ bs) = ap₂ (λ (x : Book) (l : List Book). x ∷ l) (flag_rests r b) (flags_rest r bs)
 
-sum_reflagged : (r : Bool) (bs : List Book) (n : ℕ) → fold (λ (x : ℕ) (b : Book). x + b.row.shortfall) n (map (reflagged r) bs) ≡ fold (λ (x : ℕ) (b : Book). x + b.row.shortfall) n bs
-sum_reflagged r [] n = refl
-sum_reflagged r (b ∷ bs) n = sum_reflagged r bs (n + b.row.shortfall)
+-- the cover does not depend on flags
+pub cover_reflagged : (r : Bool) (bs : List Book) → shortfalls (map (reflagged r) bs) ≡ shortfalls bs
+cover_reflagged r bs = fold-map (λ (x : ℕ) (b : Book). x + b.row.shortfall) (reflagged r) 0 bs
 
 pub finish_rests : (m : Meaning) (s : Stand) → finish m (finish m s) ≡ finish m s
 finish_rests m s =
     let k = s.market in
     let h = house_settled m k (cover_of s) s.house in
     let cs = map (reflagged h.row.own) s.constituents in
-    ap (λ (x : ℕ). flagged_by k (house_settled m k x h) cs) (sum_reflagged h.row.own s.constituents 0)
+    ap (λ (x : ℕ). flagged_by k (house_settled m k x h) cs) (cover_reflagged h.row.own s.constituents)
     ∙ ap (λ (b : Book). flagged_by k b cs) (house_rests m k (cover_of s) s.house)
     ∙ ap (λ (l : List Book). record { market = k; house = h; constituents = l }) (flags_rest h.row.own s.constituents)
-
--- the cover does not depend on flags
-pub cover_reflagged : (r : Bool) (bs : List Book) → shortfalls (map (reflagged r) bs) ≡ shortfalls bs
-cover_reflagged r bs = sum_reflagged r bs 0

@@ -8,3 +8,4 @@ pub mod Opening
 pub mod MarketCalls
 pub mod Calls
 pub mod Runs
+pub mod Printing

@@ -3,7 +3,7 @@
 -- new_month: the month that a call begins, if it begins one. aged: what a market call changes in a book before it settles. after_market: the stand after a market call.
 -- MarketOutcome, market_outcome: the answer, the market state and both tables after a market call, whatever tables it brings.
 -- MarketAnswered: all that a public market call promises.
-use Rattle.std.specs.Prelude.{◌≡◌, ℕ, ◌-◌, Bool, true, cond, List, ◌++◌, map, length, replicate, Some, None, filter, Option, nat_le}
+use Rattle.std.specs.Prelude.{◌≡◌, ℕ, ◌-◌, Bool, true, if◌then◌else◌, List, ◌++◌, map, length, replicate, Some, None, filter, Option, nat_le}
 use Rattle.models.specs.Meaning.{Meaning}
 use Rattle.refusals.specs.declared.refusal.Refusal.TheVariants.{Tables}
 use Rattle.refusals.specs.Refusals.{first_no, decided, number_of, result_number}
@@ -73,9 +73,9 @@ pub record MarketOutcome : Type 0 where
 -- tables that fail question 1 are answered 1, and all is left as it was
 abbrev pub market_outcome : Meaning → MarketState → ℕ → List AccountRow → List TradeRow → MarketCall → MarketOutcome
 market_outcome m k n rs ts c =
-    cond (tables_keep n rs ts)
-    (record { answer = market_reply m (standing k rs ts) c; market = (after_market m (standing k rs ts) c).market; rows = rows_of (after_market m (standing k rs ts) c); trades = trades_of (after_market m (standing k rs ts) c) })
-    (record { answer = market_answer (number_of Tables) k; market = k; rows = rs; trades = ts })
+    if tables_keep n rs ts
+    then record { answer = market_reply m (standing k rs ts) c; market = (after_market m (standing k rs ts) c).market; rows = rows_of (after_market m (standing k rs ts) c); trades = trades_of (after_market m (standing k rs ts) c) }
+    else record { answer = market_answer (number_of Tables) k; market = k; rows = rs; trades = ts }
 
 -- a market call, answered: answer, market and both tables after are those of the outcome; the tables keep their limits as before, and rest
 -- after an accepted call; they hold the stand that the rules make of the stand before

@@ -3,7 +3,7 @@
 -- blank_answer: an answer without figures, after refusals 1 and 2.
 -- OthersLeft: what a call leaves of the accounts that it does not name. Answered: all that a public account call promises.
 -- Outcome, account_outcome: the answer and both tables after a call, whatever tables it brings.
-use Rattle.std.specs.Prelude.{◌≡◌, ℕ, suc, ◌+◌, ◌<◌, Bool, true, cond, List, length, ◌==◌, ◌≢◌, nat_lt, slice_index_or}
+use Rattle.std.specs.Prelude.{◌≡◌, ℕ, suc, ◌+◌, ◌<◌, Bool, true, if◌then◌else◌, List, length, ◌==◌, ◌≢◌, nat_lt, slice_index_or}
 use Rattle.models.specs.Meaning.{Meaning}
 use Rattle.tables.specs.declared.row.AccountRow.{AccountRow}
 use Rattle.tables.specs.declared.row.TradeRow.{TradeRow}
@@ -18,7 +18,7 @@ use Rattle.rules.specs.Settling.{row_reflagged}
 use Rattle.rules.specs.Stands.{Stand, Verdict, refused, granted, standing, books_in, rows_of, trades_of, verdict, after_account, AtRest}
 
 abbrev pub restriction_of : AccountRow → ℕ
-restriction_of r = cond r.own 1 0 + cond r.second 2 0
+restriction_of r = (if r.own then 1 else 0) + (if r.second then 2 else 0)
 
 abbrev pub answer_of : ℕ → AccountRow → Answer
 answer_of n r = record { number = n; restriction = restriction_of r; obligation = r.obligation; available = r.available; shortfall = r.shortfall }
@@ -33,9 +33,9 @@ verdict_number (granted b) = 0
 -- the answer to a call on tables that keep their limits: the figures are those of the record after the call
 abbrev pub account_reply : Meaning → Stand → ℕ → AccountCall → Answer
 account_reply m s i c =
-    cond (nat_lt i (length (books_in s)))
-    (answer_of (verdict_number (verdict m s i c)) (slice_index_or (books_in (after_account m s i c)) i no_book).row)
-    (blank_answer (number_of NoAccount))
+    if nat_lt i (length (books_in s))
+    then answer_of (verdict_number (verdict m s i c)) (slice_index_or (books_in (after_account m s i c)) i no_book).row
+    else blank_answer (number_of NoAccount)
 
 pub record Outcome : Type 0 where
   pub answer : Answer
@@ -45,13 +45,13 @@ pub record Outcome : Type 0 where
 -- tables that fail question 1 are answered 1 and left as they were
 abbrev pub account_outcome : Meaning → MarketState → ℕ → List AccountRow → List TradeRow → ℕ → AccountCall → Outcome
 account_outcome m k n rs ts i c =
-    cond (tables_keep n rs ts)
-    (record { answer = account_reply m (standing k rs ts) i c; rows = rows_of (after_account m (standing k rs ts) i c); trades = trades_of (after_account m (standing k rs ts) i c) })
-    (record { answer = blank_answer (number_of Tables); rows = rs; trades = ts })
+    if tables_keep n rs ts
+    then record { answer = account_reply m (standing k rs ts) i c; rows = rows_of (after_account m (standing k rs ts) i c); trades = trades_of (after_account m (standing k rs ts) i c) }
+    else record { answer = blank_answer (number_of Tables); rows = rs; trades = ts }
 
 -- what a call leaves of the record of a constituent that it does not name: all, but for the second flag at the restriction after it
 abbrev pub left_alone : Bool → Bool → AccountRow → AccountRow
-left_alone accepted restricted r = cond accepted (row_reflagged restricted r) r
+left_alone accepted restricted r = if accepted then row_reflagged restricted r else r
 
 -- every constituent but account i keeps its places, and its record but for the second flag
 abbrev pub OthersLeft : ℕ → List AccountRow → List AccountRow → List TradeRow → List TradeRow → ℕ → Answer → Type 0

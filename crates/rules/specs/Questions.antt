@@ -2,7 +2,7 @@
 -- trade_questions and its like: the questions on each call's numbers and the book as it stands; asked_before: of any call.
 -- traded_questions, drawn_questions, asked_after: the questions on the figures with the change, r being the record as it stands and q as it would settle.
 -- restricted_by: whether a record is restricted; the house by its own flag alone.
-use Rattle.std.specs.Prelude.{ℕ, ◌+◌, Bool, cond, not, ◌&&◌, ◌||◌, List, [], ◌∷◌, nat_le, nat_lt, slice_index}
+use Rattle.std.specs.Prelude.{ℕ, ◌+◌, Bool, if◌then◌else◌, not, ◌&&◌, ◌||◌, List, [], ◌∷◌, nat_le, nat_lt, slice_index}
 use Rattle.tables.specs.declared.row.AccountRow.{AccountRow}
 use Rattle.tables.specs.declared.row.TradeRow.{TradeRow}
 use Rattle.tables.specs.Books.{Book, standing_of}
@@ -60,7 +60,7 @@ asked_before k b (DrawSecurity s n) = draw_security_questions b.row s n
 asked_before k b Show = []
 
 abbrev pub restricted_by : Bool → AccountRow → Bool
-restricted_by house r = cond house r.own (r.own || r.second)
+restricted_by house r = if house then r.own else (r.own || r.second)
 
 -- does available reach the obligation?
 abbrev pub covered : AccountRow → Bool

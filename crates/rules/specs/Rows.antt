@@ -4,13 +4,13 @@ use Rattle.std.specs.Prelude.{ℕ, Bool, List}
 use Rattle.tables.specs.declared.row.AccountRow.{AccountRow}
 
 abbrev pub with_cash : AccountRow → ℕ → AccountRow
-with_cash r n = record { cash = n; obligation = r.obligation; available = r.available; shortfall = r.shortfall; lots = r.lots; overnight = r.overnight; forward = r.forward; trades = r.trades; own = r.own; second = r.second }
+with_cash r n = record r { cash = n }
 
 abbrev pub with_lots : AccountRow → List ℕ → AccountRow
-with_lots r ls = record { cash = r.cash; obligation = r.obligation; available = r.available; shortfall = r.shortfall; lots = ls; overnight = r.overnight; forward = r.forward; trades = r.trades; own = r.own; second = r.second }
+with_lots r ls = record r { lots = ls }
 
 abbrev pub with_trades : AccountRow → ℕ → AccountRow
-with_trades r n = record { cash = r.cash; obligation = r.obligation; available = r.available; shortfall = r.shortfall; lots = r.lots; overnight = r.overnight; forward = r.forward; trades = n; own = r.own; second = r.second }
+with_trades r n = record r { trades = n }
 
 abbrev pub with_second : AccountRow → Bool → AccountRow
-with_second r b = record { cash = r.cash; obligation = r.obligation; available = r.available; shortfall = r.shortfall; lots = r.lots; overnight = r.overnight; forward = r.forward; trades = r.trades; own = r.own; second = b }
+with_second r b = record r { second = b }

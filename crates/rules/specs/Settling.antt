@@ -14,17 +14,13 @@ use Rattle.rules.specs.Rows.{with_second}
 
 -- a record with figures f, the obligation carrying the cover
 abbrev pub figured_row : ℕ → AccountRow → Figures → AccountRow
-figured_row cover r f = record {
-  cash = r.cash;
+figured_row cover r f = record r {
   obligation = f.obligation + cover;
   available = f.available;
   shortfall = f.obligation + cover - f.available;
-  lots = r.lots;
   overnight = f.overnight.levels;
   forward = f.forward.levels;
-  trades = r.trades;
   own = own_after r.own (f.obligation + cover) f.available;
-  second = r.second;
 }
 
 unfoldable pub settled_row : Meaning → MarketState → ℕ → AccountRow → List TradeRow → AccountRow

@@ -3,7 +3,7 @@
 -- cover_of: the sum of the constituents' shortfalls. ordered: what a call on one account comes to, from that account's book alone
 -- (with the cover, for the house). finish: cover and house settled, then all second flags. after_account: the stand after an account call.
 -- AtRest: tables that are settled.
-use Rattle.std.specs.Prelude.{◌≡◌, ℕ, Bool, cond, List, ◌∷◌, map, length, drop, sum_by, ◌==◌, nat_lt, slice_index_or, slice_set}
+use Rattle.std.specs.Prelude.{◌≡◌, ℕ, Bool, if◌then◌else◌, List, ◌∷◌, map, length, drop, sum_by, ◌==◌, nat_lt, slice_index_or, slice_set}
 use Rattle.models.specs.Meaning.{Meaning}
 use Rattle.tables.specs.declared.row.AccountRow.{AccountRow}
 use Rattle.tables.specs.declared.row.TradeRow.{TradeRow}
@@ -67,7 +67,7 @@ finish m s = flagged_by s.market (house_settled m s.market (cover_of s) s.house)
 
 -- the cover counts for the house alone
 abbrev pub cover_for : Stand → ℕ → ℕ
-cover_for s i = cond (i == 0) (cover_of s) 0
+cover_for s i = if i == 0 then cover_of s else 0
 
 abbrev pub verdict : Meaning → Stand → ℕ → AccountCall → Verdict Book
 verdict m s i c = ordered m s.market (i == 0) (cover_for s i) (slice_index_or (books_in s) i no_book) c
@@ -77,7 +77,7 @@ concluded m s i (refused e) = s
 concluded m s i (granted b) = finish m (stand_of s.market (slice_set (books_in s) i b))
 
 abbrev pub after_account : Meaning → Stand → ℕ → AccountCall → Stand
-after_account m s i c = cond (nat_lt i (length (books_in s))) (concluded m s i (verdict m s i c)) s
+after_account m s i c = if nat_lt i (length (books_in s)) then concluded m s i (verdict m s i c) else s
 
 -- settling the tables once more, the house at the cover and the second flags at the restriction, changes nothing
 abbrev pub AtRest : Meaning → MarketState → List AccountRow → List TradeRow → Type 0

@@ -1,8 +1,12 @@
 // The calls on a house, and what they answer.
+ghost use Rattle.std.specs.Prelude.{Some};
+
 use market::call::MarketCall;
+use std::fmt;
 use tables::row::TradeRow;
 
-// Trade: a new trade. End: the first trade of a number goes. Lodge and draw: collateral comes in or goes out.
+// Trade: a new trade. End: the first trade of a number goes. Lodge and draw: collateral comes in or goes out, an amount, or a security
+// and its lots, in two numbers as callers pass them.
 // Show: nothing but the settlement that every accepted call makes.
 #[derive(Clone, Copy)]
 pub enum AccountCall {
@@ -16,9 +20,9 @@ pub enum AccountCall {
 }
 
 // The number of the first question that failed, or 0; the figures that the record holds after the call;
-// and the restriction: 0 none, 1 own flag, 2 second flag, 3 both.
+// and the restriction: 0 none, 1 own flag, 2 second flag, 3 both. They are plain numbers since it is part of the C interface.
 #[repr(C)]
-#[derive(Clone, Copy)]
+#[derive(Clone, Copy, Debug, PartialEq, Eq)]
 pub struct Answer {
     pub number: u8,
     pub restriction: u8,
@@ -35,9 +39,9 @@ pub struct NamedCall {
 }
 
 // What a market call answers: the number of the first question that failed, or 0; set and month; and the volatility per cents
-// of both families in tenths, as they stand after the call.
+// of both families in tenths, as they stand after the call. They are plain numbers since it is part of the C interface.
 #[repr(C)]
-#[derive(Clone, Copy)]
+#[derive(Clone, Copy, Debug, PartialEq, Eq)]
 pub struct MarketAnswer {
     pub number: u8,
     pub month: u16,
@@ -54,7 +58,7 @@ pub enum Call {
 }
 
 // What any call answers.
-#[derive(Clone, Copy)]
+#[derive(Clone, Copy, Debug, PartialEq, Eq)]
 pub enum Reply {
     Account(Answer),
     Market(MarketAnswer),
@@ -65,4 +69,45 @@ pub enum Reply {
 pub enum Event {
     RightTables(Call),
     WrongTables(Call),
+}
+
+impl fmt::Display for Answer {
+    ghost use Rattle.rules.specs.Printing.{answer_text};
+
+    ghost output = { λ a. Some (answer_text a) };
+
+    fn fmt<W: fmt::Write>(&self, f: &mut fmt::Formatter<W>) -> fmt::Result {
+        write!(
+            f,
+            "{} {} {} {} {}",
+            self.number, self.obligation, self.available, self.shortfall, self.restriction
+        )
+    }
+}
+
+impl fmt::Display for MarketAnswer {
+    ghost use Rattle.rules.specs.Printing.{market_text};
+
+    ghost output = { λ a. Some (market_text a) };
+
+    fn fmt<W: fmt::Write>(&self, f: &mut fmt::Formatter<W>) -> fmt::Result {
+        write!(
+            f,
+            "{} {} {} {} {}",
+            self.number, self.set, self.month, self.overnight, self.forward
+        )
+    }
+}
+
+impl fmt::Display for Reply {
+    ghost use Rattle.rules.specs.Printing.{reply_text};
+
+    ghost output = { λ r. Some (reply_text r) };
+
+    fn fmt<W: fmt::Write>(&self, f: &mut fmt::Formatter<W>) -> fmt::Result {
+        match self {
+            Reply::Account(answer) => answer.fmt(f),
+            Reply::Market(answer) => answer.fmt(f),
+        }
+    }
 }

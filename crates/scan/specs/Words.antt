@@ -4,19 +4,18 @@
 --   word_of           the first word; it is empty where the text has none
 --   rest_of           what follows the first word
 --   after_number      what follows the first word where it is a number, else the text
-use Rattle.std.specs.Prelude.{ℕ, ◌+◌, Bool, cond, List, [], ◌∷◌, take, drop, ℤ, Some, None, Option, nat_le}
+use Rattle.std.specs.Prelude.{ℕ, Bool, List, take, drop, ℤ, Some, None, Option, nat_le}
+use Rattle.std.specs.List.{prefix_len, position_or_len}
 use Rattle.scan.specs.Number.{number_of}
 
 abbrev pub blank : ℕ → Bool
 blank b = nat_le b 32
 
 abbrev pub blanks : List ℕ → ℕ
-blanks [] = 0
-blanks (b ∷ bs) = cond (blank b) (blanks bs + 1) 0
+blanks bs = prefix_len blank bs
 
 abbrev pub letters : List ℕ → ℕ
-letters [] = 0
-letters (b ∷ bs) = cond (blank b) 0 (letters bs + 1)
+letters bs = position_or_len blank bs
 
 abbrev pub word_of : List ℕ → List ℕ
 word_of bs = take (letters (drop (blanks bs) bs)) (drop (blanks bs) bs)

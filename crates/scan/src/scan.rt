@@ -1,7 +1,9 @@
 // The words of a text, one after the other.
-ghost use Rattle.std.specs.Prelude.{◌≡◌, ◌≤◌, length, Decides};
+ghost use Rattle.std.specs.Fn.{FnReturnsAt};
+ghost use Rattle.std.specs.List.{All, HoldsAt};
+ghost use Rattle.std.specs.Prelude.{◌≡◌, ◌<◌, ◌++◌, length, true, false, Decides};
 ghost use Rattle.std.specs.Str.{bytes_eq};
-ghost use Rattle.scan.specs.Words.{blank, blanks, letters, word_of, rest_of};
+ghost use Rattle.scan.specs.Words.{blank, word_of, rest_of};
 
 // What is left of a text.
 #[derive(Clone, Copy)]
@@ -12,31 +14,17 @@ pub struct Scan<'a> {
 fn is_blank(b: u8) -> bool
     ensures { result ≡ blank b }
 {
-    b <= 32
+    b <= b' '
 }
 
-// How many blanks stand first.
-fn count_blanks(text: &[u8]) -> usize
-    ensures value { result ≡ blanks text.now }
-    ensures bound { result ≤ length text.now }
+// A text, parted before its first byte that stops.
+pub fn split_before<F: Fn(&u8) -> bool>(text: &[u8], stops: F) -> (&[u8], &[u8])
+    requires { F.IsAlwaysCallable stops }
+    ensures whole { result.0.now ++ result.1.now ≡ text.now }
+    ensures before { All (λ b. FnReturnsAt F.Fn stops b false) result.0.now }
+    ensures stop { 0 < length result.1.now → HoldsAt (λ b. FnReturnsAt F.Fn stops b true) result.1.now 0 }
 {
-    let mut n = 0;
-    while n < text.len() && is_blank(text[n]) {
-        n += 1;
-    }
-    n
-}
-
-// How many bytes stand before the first blank.
-fn count_letters(text: &[u8]) -> usize
-    ensures value { result ≡ letters text.now }
-    ensures bound { result ≤ length text.now }
-{
-    let mut n = 0;
-    while n < text.len() && !is_blank(text[n]) {
-        n += 1;
-    }
-    n
+    text.split_at(text.iter().position(stops).unwrap_or(text.len()))
 }
 
 impl<'a> Scan<'a> {
@@ -46,14 +34,13 @@ impl<'a> Scan<'a> {
         Scan { rest: text }
     }
 
-    // The next word; it is empty at the end of the text.
+    // The next word; it is empty at the end of the text, and no `Option`: most readers ask what it is, and no word is empty.
     pub fn word(&mut self) -> &'a [u8]
         ensures value { result.now ≡ word_of self.old.rest.now }
         ensures after { self.new.rest.now ≡ rest_of self.old.rest.now }
     {
-        let rest = self.rest;
-        let (_, text) = rest.split_at(count_blanks(rest));
-        let (word, after) = text.split_at(count_letters(text));
+        let (_, text) = split_before(self.rest, |b| !is_blank(*b));
+        let (word, after) = split_before(text, |b| is_blank(*b));
         self.rest = after;
         word
     }

@@ -1,2 +1,2 @@
-mod Steps
+mod Tables
 mod Chains

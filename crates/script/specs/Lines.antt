@@ -3,11 +3,11 @@
 --   uncommented   a line without its comment, which begins with the first number sign (35)
 --   line_of       the first line of a text, without its line feed (10)
 --   lines_after   what follows the first line and its line feed
-use Rattle.std.specs.Prelude.{ℕ, ◌+◌, cond, List, [], ◌∷◌, take, drop, ◌==◌}
+use Rattle.std.specs.Prelude.{ℕ, List, take, drop, ◌==◌}
+use Rattle.std.specs.List.{position_or_len}
 
 abbrev pub before : ℕ → List ℕ → ℕ
-before m [] = 0
-before m (b ∷ bs) = cond (b == m) 0 (before m bs + 1)
+before m bs = position_or_len (λ b. b == m) bs
 
 abbrev pub uncommented : List ℕ → List ℕ
 uncommented bs = take (before 35 bs) bs

@@ -1,14 +1,35 @@
 -- The words that a line may begin with. Assumes nothing.
---   account_words      how each is written: of trades and shows
+--   word_text          how each is written
+--   account_words      the words of trades and shows, as they are written
 --   collateral_words   of collateral
 --   market_words       of market calls
 --   session_words      and the others
 --   looked_up          the word that a text is, in such a table
 --   word_named         the word that a text is, in all four
-use Rattle.std.specs.Prelude.{ℕ, cond, List, [], ◌∷◌, Some, None, codes, Option}
+use Rattle.std.specs.Prelude.{ℕ, if◌then◌else◌, List, [], ◌∷◌, Some, None, codes, Option}
 use Rattle.std.specs.Str.{bytes_eq}
 use Rattle.script.specs.declared.word.Word.{Word}
 use Rattle.script.specs.declared.word.Word.TheVariants.{Open, Model, Trade, End, LodgeCash, DrawCash, LodgeSecurity, DrawSecurity, Show, Set, Price, StepUp, Averages, Thresholds, Check, Close, Month, Report}
+
+abbrev pub word_text : Word → List ℕ
+word_text Open = codes "open"
+word_text Model = codes "model"
+word_text Trade = codes "trade"
+word_text End = codes "end"
+word_text LodgeCash = codes "lodge-cash"
+word_text DrawCash = codes "draw-cash"
+word_text LodgeSecurity = codes "lodge-security"
+word_text DrawSecurity = codes "draw-security"
+word_text Show = codes "show"
+word_text Set = codes "set"
+word_text Price = codes "price"
+word_text StepUp = codes "step-up"
+word_text Averages = codes "averages"
+word_text Thresholds = codes "thresholds"
+word_text Check = codes "check"
+word_text Close = codes "close"
+word_text Month = codes "month"
+word_text Report = codes "report"
 
 abbrev pub Written : Type 0
 Written = List ℕ × Word
@@ -30,7 +51,7 @@ session_words = (codes "open", Open) ∷ (codes "model", Model) ∷ (codes "repo
 
 abbrev pub looked_up : List ℕ → List Written → Option Word
 looked_up t [] = None
-looked_up t (p ∷ ps) = cond (bytes_eq t p.0) (Some p.1) (looked_up t ps)
+looked_up t (p ∷ ps) = if bytes_eq t p.0 then Some p.1 else looked_up t ps
 
 abbrev pub or_else : Option Word → Option Word → Option Word
 or_else None o = o

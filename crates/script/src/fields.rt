@@ -1,96 +1,119 @@
 // The fields of a line.
-ghost use Rattle.std.specs.Prelude.{◌≡◌, ◌≤◌, [], ◌∷◌, IfOk, Ok, Err, MatchResult};
-ghost use Rattle.scan.specs.Words.{word_of, rest_of};
-ghost use Rattle.script.specs.Fields.{number_field, name_field, fields_of};
-ghost use Rattle.script.specs.Commands.{five};
+ghost use Rattle.std.specs.Prelude.{◌≡◌, ◌<◌, ℕ, List, [], ◌∷◌, ◌++◌, length, Err};
+ghost use Rattle.scan.specs.Number.{number_of};
+ghost use Rattle.script.specs.Fields.{Field, name, bits8, bits16, bits32, bits64, Converts, Reads};
+ghost use Rattle.script.specs.declared.reason.Reason.TheVariants.{MissingNumber};
 
 use super::reason::Reason;
 use scan::number::number;
 use scan::scan::Scan;
+use std::num::TryFromIntError;
 
-// The number that a word gives for a field that may hold numbers up to `most`.
-fn number_field(word: &[u8], most: u64) -> Result<u64, Reason>
-    ensures value { result ≡ number_field most word.now }
-    ensures fits { IfOk result (λ n. n ≤ most) }
+// What is read from the fields that stand first in a text.
+pub trait FromFields: Sized {
+    // The fields that it wants, and the numbers that they gave.
+    ghost wants: { List Field };
+
+    ghost numbers: { Self → List ℕ };
+
+    fn read(scan: &mut Scan) -> Result<Self, Reason>
+        ensures { Reads wants numbers scan.old.rest.now result scan.new.rest.now };
+}
+
+// The number that a word gives, if it fits.
+fn number_field<T: TryFrom<i128, Error = TryFromIntError> + Drop>(word: &[u8]) -> Result<T, Reason>
+    ensures missing { length word.now ≡ 0 → result ≡ Err MissingNumber }
+    ensures number { 0 < length word.now → Converts T.try_from_gives (number_of word.now) result }
 {
     if word.is_empty() {
         return Err(Reason::MissingNumber);
     }
-    match number(word) {
-        Some(n) => {
-            if n < 0 {
-                Err(Reason::Negative)
-            } else if n > most as i128 {
-                Err(Reason::TooLarge)
-            } else {
-                Ok(n as u64)
-            }
+    let n = number(word).ok_or(Reason::NotNumber)?;
+    if n < 0 {
+        return Err(Reason::Negative);
+    }
+    T::try_from(n).map_err(|_| Reason::TooLarge)
+}
+
+// An impl for each width, since `TryFrom` does not say which field a type wants.
+impl FromFields for u8 {
+    ghost wants = { bits8 ∷ [] };
+
+    ghost numbers = { λ x. x ∷ [] };
+
+    fn read(scan: &mut Scan) -> Result<u8, Reason> {
+        number_field(scan.word())
+    }
+}
+
+impl FromFields for u16 {
+    ghost wants = { bits16 ∷ [] };
+
+    ghost numbers = { λ x. x ∷ [] };
+
+    fn read(scan: &mut Scan) -> Result<u16, Reason> {
+        number_field(scan.word())
+    }
+}
+
+impl FromFields for u32 {
+    ghost wants = { bits32 ∷ [] };
+
+    ghost numbers = { λ x. x ∷ [] };
+
+    fn read(scan: &mut Scan) -> Result<u32, Reason> {
+        number_field(scan.word())
+    }
+}
+
+impl FromFields for u64 {
+    ghost wants = { bits64 ∷ [] };
+
+    ghost numbers = { λ x. x ∷ [] };
+
+    fn read(scan: &mut Scan) -> Result<u64, Reason> {
+        number_field(scan.word())
+    }
+}
+
+// The name of a file: any word.
+#[derive(Clone, Copy)]
+pub struct Name;
+
+impl FromFields for Name {
+    ghost wants = { name ∷ [] };
+
+    ghost numbers = { λ x. 0 ∷ [] };
+
+    fn read(scan: &mut Scan) -> Result<Name, Reason> {
+        if scan.word().is_empty() {
+            Err(Reason::MissingName)
+        } else {
+            Ok(Name)
         }
-        None => Err(Reason::NotNumber),
     }
 }
 
-// The next field, of 8 bits.
-pub fn read_u8(scan: &mut Scan) -> Result<u8, Reason>
-    ensures value { result ≡ number_field 255 (word_of scan.old.rest.now) }
-    ensures after { scan.new.rest.now ≡ rest_of scan.old.rest.now }
-{
-    match number_field(scan.word(), u8::MAX as u64) {
-        Ok(n) => Ok(n as u8),
-        Err(reason) => Err(reason),
+impl<A: FromFields + Drop, B: FromFields> FromFields for (A, B) {
+    ghost wants = { A.wants ++ B.wants };
+
+    ghost numbers = { λ p. A.numbers p.0 ++ B.numbers p.1 };
+
+    fn read(scan: &mut Scan) -> Result<(A, B), Reason> {
+        let first = A::read(scan)?;
+        let second = B::read(scan)?;
+        Ok((first, second))
     }
 }
 
-// The next field, of 16 bits.
-pub fn read_u16(scan: &mut Scan) -> Result<u16, Reason>
-    ensures value { result ≡ number_field 65535 (word_of scan.old.rest.now) }
-    ensures after { scan.new.rest.now ≡ rest_of scan.old.rest.now }
-{
-    match number_field(scan.word(), u16::MAX as u64) {
-        Ok(n) => Ok(n as u16),
-        Err(reason) => Err(reason),
-    }
-}
+impl<A: FromFields + Drop, B: FromFields + Drop, C: FromFields> FromFields for (A, B, C) {
+    ghost wants = { A.wants ++ (B.wants ++ C.wants) };
 
-// The next field, of 32 bits.
-pub fn read_u32(scan: &mut Scan) -> Result<u32, Reason>
-    ensures value { result ≡ number_field 4294967295 (word_of scan.old.rest.now) }
-    ensures after { scan.new.rest.now ≡ rest_of scan.old.rest.now }
-{
-    match number_field(scan.word(), u32::MAX as u64) {
-        Ok(n) => Ok(n as u32),
-        Err(reason) => Err(reason),
-    }
-}
+    ghost numbers = { λ p. A.numbers p.0 ++ (B.numbers p.1 ++ C.numbers p.2) };
 
-// The next field, of 64 bits.
-pub fn read_u64(scan: &mut Scan) -> Result<u64, Reason>
-    ensures value { result ≡ number_field 18446744073709551615 (word_of scan.old.rest.now) }
-    ensures after { scan.new.rest.now ≡ rest_of scan.old.rest.now }
-{
-    number_field(scan.word(), u64::MAX)
-}
-
-// The next five fields, of 32 bits each.
-pub fn read_five(scan: &mut Scan) -> Result<[u32; 5], Reason>
-    ensures { MatchResult result (λ xs. fields_of five scan.old.rest.now ≡ Ok (xs, scan.new.rest.now)) (λ e. fields_of five scan.old.rest.now ≡ Err e) }
-{
-    let a = read_u32(scan)?;
-    let b = read_u32(scan)?;
-    let c = read_u32(scan)?;
-    let d = read_u32(scan)?;
-    let e = read_u32(scan)?;
-    Ok([a, b, c, d, e])
-}
-
-// The name of a file, which is the next word.
-pub fn read_name(scan: &mut Scan) -> Result<(), Reason>
-    ensures value { MatchResult result (λ _. name_field (word_of scan.old.rest.now) ≡ Ok 0) (λ e. name_field (word_of scan.old.rest.now) ≡ Err e) }
-    ensures after { scan.new.rest.now ≡ rest_of scan.old.rest.now }
-{
-    if scan.word().is_empty() {
-        Err(Reason::MissingName)
-    } else {
-        Ok(())
+    fn read(scan: &mut Scan) -> Result<(A, B, C), Reason> {
+        let first = A::read(scan)?;
+        let (second, third) = <(B, C)>::read(scan)?;
+        Ok((first, second, third))
     }
 }

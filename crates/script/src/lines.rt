@@ -1,30 +1,26 @@
 // The lines of a script.
-ghost use Rattle.std.specs.Prelude.{◌≡◌, ◌<◌, ◌≤◌, length, MatchOption};
-ghost use Rattle.script.specs.Lines.{before, uncommented, line_of, lines_after};
+ghost use Rattle.std.specs.Iterator.{at_most};
+ghost use Rattle.std.specs.Prelude.{◌≡◌, ◌<◌, length, drop, MatchOption};
+ghost use Rattle.script.specs.Lines.{uncommented, line_of, lines_after};
 
-// The byte that ends a line, and the one that begins a comment.
-const LINE_FEED: u8 = 10;
-
-const HASH: u8 = 35;
-
-// How many bytes stand before the first such byte.
-fn count_before(text: &[u8], mark: u8) -> usize
-    ensures value { result ≡ before mark text.now }
-    ensures bound { result ≤ length text.now }
-{
-    let mut n = 0;
-    while n < text.len() && text[n] != mark {
-        n += 1;
-    }
-    n
-}
+use scan::scan::split_before;
 
 // A line without its comment.
 pub fn without_comment(line: &[u8]) -> &[u8]
     ensures { result.now ≡ uncommented line.now }
 {
-    let (words, _) = line.split_at(count_before(line, HASH));
+    let (words, _) = split_before(line, |b| *b == b'#');
     words
+}
+
+// A text without its first byte.
+fn past_first(text: &[u8]) -> &[u8]
+    ensures { result.now ≡ drop 1 text.now }
+{
+    match text {
+        [_, rest @ ..] => rest,
+        [] => text,
+    }
 }
 
 // What is left of a script.
@@ -42,19 +38,26 @@ impl<'a> Lines<'a> {
 
     // The next line, without its line feed; nothing at the end.
     pub fn next_line(&mut self) -> Option<&'a [u8]>
-        ensures { MatchOption result (length self.old.rest.now ≡ 0) (λ line. (line.now ≡ line_of self.old.rest.now) × ((self.new.rest.now ≡ lines_after self.old.rest.now) × (length self.new.rest.now < length self.old.rest.now))) }
+        ensures line { MatchOption result (length self.old.rest.now ≡ 0) (λ line. (line.now ≡ line_of self.old.rest.now) × ((self.new.rest.now ≡ lines_after self.old.rest.now) × (length self.new.rest.now < length self.old.rest.now))) }
+        ensures end { length self.old.rest.now ≡ 0 → self.new.rest.now ≡ self.old.rest.now }
     {
-        let rest = self.rest;
-        if rest.is_empty() {
+        if self.rest.is_empty() {
             return None;
         }
-        let (line, after) = rest.split_at(count_before(rest, LINE_FEED));
-        if after.is_empty() {
-            self.rest = after;
-        } else {
-            let (_, left) = after.split_at(1);
-            self.rest = left;
-        }
+        let (line, after) = split_before(self.rest, |b| *b == b'\n');
+        self.rest = past_first(after);
         Some(line)
+    }
+}
+
+impl<'a> Iterator for Lines<'a> {
+    type Item = &'a [u8];
+
+    ghost next_gives = { λ s r t. MatchOption r (length s.rest.now ≡ 0) (λ line. (line.now ≡ line_of s.rest.now) × (t.rest.now ≡ lines_after s.rest.now)) };
+
+    ghost remaining = { λ s. at_most (length s.rest.now) };
+
+    fn next(&mut self) -> Option<&'a [u8]> {
+        self.next_line()
     }
 }

@@ -5,12 +5,9 @@ ghost use Rattle.script.specs.Commands.{on_account, of_market, command_in, whole
 ghost use Rattle.script.specs.Lines.{uncommented};
 
 use super::command::Command;
-use super::fields::{read_name, read_u16, read_u32};
+use super::fields::{FromFields, Name};
 use super::lines::without_comment;
 use super::reason::Reason;
-use super::shapes::{
-    read_averages, read_cash, read_check, read_lots, read_quote, read_thresholds, read_trade,
-};
 use super::word::{Word, word_named};
 use market::call::MarketCall;
 use rules::call::{AccountCall, Call, NamedCall};
@@ -34,77 +31,68 @@ fn read_command(word: Word, scan: &mut Scan) -> Result<Command, Reason>
 {
     match word {
         Word::Open => {
-            let accounts = read_u32(scan)?;
-            let month = read_u16(scan)?;
+            let (accounts, month) = FromFields::read(scan)?;
             Ok(Command::Open(accounts, month))
         }
         Word::Model => {
-            read_name(scan)?;
+            let Name = FromFields::read(scan)?;
             Ok(Command::Model)
         }
         Word::Trade => {
-            let account = read_u32(scan)?;
-            let trade = read_trade(scan)?;
+            let (account, trade) = FromFields::read(scan)?;
             Ok(on_account(account, AccountCall::Trade(trade)))
         }
         Word::End => {
-            let account = read_u32(scan)?;
-            let number = read_u32(scan)?;
+            let (account, number) = FromFields::read(scan)?;
             Ok(on_account(account, AccountCall::End(number)))
         }
         Word::LodgeCash => {
-            let cash = read_cash(scan)?;
-            Ok(on_account(cash.account, AccountCall::LodgeCash(cash.amount)))
+            let (account, amount) = FromFields::read(scan)?;
+            Ok(on_account(account, AccountCall::LodgeCash(amount)))
         }
         Word::DrawCash => {
-            let cash = read_cash(scan)?;
-            Ok(on_account(cash.account, AccountCall::DrawCash(cash.amount)))
+            let (account, amount) = FromFields::read(scan)?;
+            Ok(on_account(account, AccountCall::DrawCash(amount)))
         }
         Word::LodgeSecurity => {
-            let held = read_lots(scan)?;
-            Ok(on_account(
-                held.account,
-                AccountCall::LodgeSecurity(held.security, held.lots),
-            ))
+            let (account, security, lots) = FromFields::read(scan)?;
+            Ok(on_account(account, AccountCall::LodgeSecurity(security, lots)))
         }
         Word::DrawSecurity => {
-            let held = read_lots(scan)?;
-            Ok(on_account(
-                held.account,
-                AccountCall::DrawSecurity(held.security, held.lots),
-            ))
+            let (account, security, lots) = FromFields::read(scan)?;
+            Ok(on_account(account, AccountCall::DrawSecurity(security, lots)))
         }
         Word::Show => {
-            let account = read_u32(scan)?;
+            let account = FromFields::read(scan)?;
             Ok(on_account(account, AccountCall::Show))
         }
         Word::Set => {
-            let set = read_u32(scan)?;
+            let set = FromFields::read(scan)?;
             Ok(of_market(MarketCall::Set(set)))
         }
         Word::Price => {
-            let quote = read_quote(scan)?;
+            let quote = FromFields::read(scan)?;
             Ok(of_market(MarketCall::Price(quote)))
         }
         Word::StepUp => {
-            let percent = read_u32(scan)?;
+            let percent = FromFields::read(scan)?;
             Ok(of_market(MarketCall::StepUp(percent)))
         }
         Word::Averages => {
-            let given = read_averages(scan)?;
-            Ok(of_market(MarketCall::Averages(given.family, given.averages)))
+            let (family, averages) = FromFields::read(scan)?;
+            Ok(of_market(MarketCall::Averages(family, averages)))
         }
         Word::Thresholds => {
-            let given = read_thresholds(scan)?;
-            Ok(of_market(MarketCall::Thresholds(given.family, given.thresholds)))
+            let (family, thresholds) = FromFields::read(scan)?;
+            Ok(of_market(MarketCall::Thresholds(family, thresholds)))
         }
         Word::Check => {
-            let check = read_check(scan)?;
+            let check = FromFields::read(scan)?;
             Ok(of_market(MarketCall::Volatility(check)))
         }
         Word::Close => Ok(of_market(MarketCall::Close)),
         Word::Month => {
-            let month = read_u16(scan)?;
+            let month = FromFields::read(scan)?;
             Ok(of_market(MarketCall::Month(month)))
         }
         Word::Report => Ok(Command::Report),
@@ -112,13 +100,12 @@ fn read_command(word: Word, scan: &mut Scan) -> Result<Command, Reason>
 }
 
 // A command after which no word may follow.
+#[tactic(auto, unfolding(crate::specs::Commands::whole_of))]
 fn read_all(text: &[u8]) -> Result<Command, Reason>
     ensures { result ≡ whole_of text.now }
 {
     let mut scan = Scan::new(text);
-    let Some(word) = word_named(scan.word()) else {
-        return Err(Reason::UnknownWord);
-    };
+    let word = word_named(scan.word()).ok_or(Reason::UnknownWord)?;
     let found = read_command(word, &mut scan)?;
     if scan.word().is_empty() {
         Ok(found)
@@ -135,13 +122,11 @@ pub fn parse(line: &[u8]) -> Result<Option<Command>, Reason>
     if Scan::new(text).word().is_empty() {
         return Ok(None);
     }
-    match read_all(text) {
-        Ok(command) => Ok(Some(command)),
-        Err(reason) => Err(reason),
-    }
+    read_all(text).map(Some)
 }
 
-// The second word of a line, which is the name of the file where the line asks for a model.
+// The second word of a line, which is the name of the file where the line asks for a model. It is read again here, and not lent by
+// the command: that is no plainer, since every command would then have the lifetime of its line.
 pub fn file_name(line: &[u8]) -> &[u8]
     ensures { result.now ≡ word_of (rest_of (uncommented line.now)) }
 {

@@ -1,6 +1,10 @@
 // Why a line is not answered.
-ghost use Rattle.std.specs.Prelude.{◌≡◌};
+ghost use Rattle.std.specs.Prelude.{◌≡◌, Some};
 ghost use Rattle.script.specs.Reasons.{reason_text};
+ghost use Rattle.script.specs.declared.reason.Reason.TheVariants.{NoMemory};
+
+use std::alloc::AllocError;
+use std::fmt;
 
 #[derive(Clone, Copy)]
 pub enum Reason {
@@ -43,5 +47,21 @@ impl Reason {
             Reason::NotModel => "not a model file",
             Reason::NoMemory => "out of memory",
         }
+    }
+}
+
+impl fmt::Display for Reason {
+    ghost output = { λ reason. Some (reason_text reason) };
+
+    fn fmt<W: fmt::Write>(&self, f: &mut fmt::Formatter<W>) -> fmt::Result {
+        f.write_str(self.text())
+    }
+}
+
+impl From<AllocError> for Reason {
+    ghost from_gives = { λ _ reason. reason ≡ NoMemory };
+
+    fn from(_error: AllocError) -> Reason {
+        Reason::NoMemory
     }
 }

@@ -1,70 +1,45 @@
 // The lines that a run prints.
 use market::call::MarketCall;
 use models::refusal::MakingRefusal;
-use rules::call::{AccountCall, Answer, Call, MarketAnswer, Reply};
+use rules::call::{AccountCall, Call, Reply};
+use script::word::Word;
 use session::session::Session;
 use std::fmt::Write;
 use tables::row::AccountRow;
 
 // The word of a call.
-fn call_word(call: Call) -> &'static str {
+fn word_of(call: Call) -> Word {
     match call {
         Call::Account(named) => match named.call {
-            AccountCall::Trade(_) => "trade",
-            AccountCall::End(_) => "end",
-            AccountCall::LodgeCash(_) => "lodge-cash",
-            AccountCall::DrawCash(_) => "draw-cash",
-            AccountCall::LodgeSecurity(_, _) => "lodge-security",
-            AccountCall::DrawSecurity(_, _) => "draw-security",
-            AccountCall::Show => "show",
+            AccountCall::Trade(_) => Word::Trade,
+            AccountCall::End(_) => Word::End,
+            AccountCall::LodgeCash(_) => Word::LodgeCash,
+            AccountCall::DrawCash(_) => Word::DrawCash,
+            AccountCall::LodgeSecurity(_, _) => Word::LodgeSecurity,
+            AccountCall::DrawSecurity(_, _) => Word::DrawSecurity,
+            AccountCall::Show => Word::Show,
         },
         Call::Market(change) => match change {
-            MarketCall::Set(_) => "set",
-            MarketCall::Price(_) => "price",
-            MarketCall::StepUp(_) => "step-up",
-            MarketCall::Averages(_, _) => "averages",
-            MarketCall::Thresholds(_, _) => "thresholds",
-            MarketCall::Volatility(_) => "check",
-            MarketCall::Close => "close",
-            MarketCall::Month(_) => "month",
+            MarketCall::Set(_) => Word::Set,
+            MarketCall::Price(_) => Word::Price,
+            MarketCall::StepUp(_) => Word::StepUp,
+            MarketCall::Averages(_, _) => Word::Averages,
+            MarketCall::Thresholds(_, _) => Word::Thresholds,
+            MarketCall::Volatility(_) => Word::Check,
+            MarketCall::Close => Word::Close,
+            MarketCall::Month(_) => Word::Month,
         },
     }
-}
-
-fn write_answer(text: &mut String, answer: Answer) -> anyhow::Result<()> {
-    let number = answer.number;
-    let obligation = answer.obligation;
-    let available = answer.available;
-    let shortfall = answer.shortfall;
-    let restriction = answer.restriction;
-    writeln!(
-        text,
-        "{number} {obligation} {available} {shortfall} {restriction}"
-    )?;
-    Ok(())
-}
-
-fn write_market(text: &mut String, answer: MarketAnswer) -> anyhow::Result<()> {
-    let number = answer.number;
-    let set = answer.set;
-    let month = answer.month;
-    let overnight = answer.overnight;
-    let forward = answer.forward;
-    writeln!(text, "{number} {set} {month} {overnight} {forward}")?;
-    Ok(())
 }
 
 // The line of a call that was made.
 pub fn write_reply(text: &mut String, line: usize, call: Call, reply: Reply) -> anyhow::Result<()> {
-    let word = call_word(call);
-    write!(text, "{line} {word} ")?;
-    match reply {
-        Reply::Account(answer) => write_answer(text, answer),
-        Reply::Market(answer) => write_market(text, answer),
-    }
+    let word = word_of(call).text();
+    writeln!(text, "{line} {word} {reply}")?;
+    Ok(())
 }
 
-// The line of a model that was refused.
+// The line of a model that was refused. The statement says the same in other words, so that the refusal has no `Display`.
 pub fn write_refused(text: &mut String, line: usize, refusal: MakingRefusal) -> anyhow::Result<()> {
     let number = refusal.number();
     match refusal.place() {
@@ -74,23 +49,22 @@ pub fn write_refused(text: &mut String, line: usize, refusal: MakingRefusal) -> 
     Ok(())
 }
 
-fn restriction(own: bool, second: bool) -> &'static str {
-    if own && second {
-        "both"
-    } else if own {
-        "own"
-    } else if second {
-        "second"
-    } else {
-        "none"
+// What an account is restricted by, in a word.
+fn restriction(record: &AccountRow) -> &'static str {
+    match (record.own, record.second) {
+        (true, true) => "both",
+        (true, false) => "own",
+        (false, true) => "second",
+        (false, false) => "none",
     }
 }
 
+// A function and no `Display`, which is no plainer: the row is another crate's, and would need a type around it with its account.
 fn write_record(text: &mut String, account: usize, record: &AccountRow) -> anyhow::Result<()> {
     let obligation = record.obligation;
     let available = record.available;
     let shortfall = record.shortfall;
-    let held = restriction(record.own, record.second);
+    let held = restriction(record);
     let trades = record.trades;
     write!(text, "{account:>7} {obligation:>19} {available:>19} ")?;
     writeln!(text, "{shortfall:>19}  {held:<11} {trades:>6}")?;

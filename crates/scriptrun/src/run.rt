@@ -20,10 +20,7 @@ fn write_said(
         Ok(Said::Refused(refusal)) => write_refused(text, line, refusal)?,
         Ok(Said::Replied(call, reply)) => write_reply(text, line, call, reply)?,
         Ok(Said::Report) => write_report(text, line, session)?,
-        Err(reason) => {
-            let why = reason.text();
-            writeln!(text, "{line} error {why}")?;
-        }
+        Err(reason) => writeln!(text, "{line} error {reason}")?,
     }
     Ok(())
 }
@@ -33,10 +30,7 @@ pub fn transcript(rt: &HostRuntime, bytes: &[u8]) -> anyhow::Result<String> {
     let heap = rt.alloc();
     let mut session = Session::new(heap)?;
     let mut text = String::new(heap);
-    let mut lines = Lines::new(bytes);
-    let mut number = 0usize;
-    while let Some(line) = lines.next_line() {
-        number = number.saturating_add(1);
+    for (number, line) in (1usize..).zip(Lines::new(bytes)) {
         let said = play(&mut session, rt, line);
         write_said(&mut text, number, &session, said)?;
     }

@@ -18,16 +18,11 @@ use std::str::from_utf8;
 fn read_file(rt: &HostRuntime, name: &[u8]) -> Result<Vec<u8>, Reason>
     ensures { IfErr result (λ e. e ≡ NoFile) }
 {
-    let Ok(path) = from_utf8(name) else {
-        return Err(Reason::NoFile);
-    };
-    match fs::read(rt, path) {
-        Ok(bytes) => Ok(bytes),
-        Err(_) => Err(Reason::NoFile),
-    }
+    let path = from_utf8(name).map_err(|_| Reason::NoFile)?;
+    fs::read(rt, path).map_err(|_| Reason::NoFile)
 }
 
-// Takes the model of a text into use.
+// Takes the model of a text into use. Refused numbers are said and no error, so a `From` and `?` are no plainer than this match.
 pub fn take(session: &mut Session, heap: Global, text: &[u8]) -> Result<Said, Reason>
     ensures { Takes text.now (held session.old) result (held session.new) }
 {
@@ -49,10 +44,10 @@ pub fn obey(
     ensures { Does command (held session.old) result (held session.new) }
 {
     match command {
-        Command::Open(accounts, month) => match session.open(rt.alloc(), accounts, month) {
-            Ok(number) => Ok(Said::Opened(number)),
-            Err(_) => Err(Reason::NoMemory),
-        },
+        Command::Open(accounts, month) => {
+            let number = session.open(rt.alloc(), accounts, month)?;
+            Ok(Said::Opened(number))
+        }
         Command::Model => {
             let text = read_file(rt, name)?;
             take(session, rt.alloc(), text.as_slice())

@@ -1,8 +1,9 @@
 // An account's file: one entry to a line, a word and its numbers; `#` begins a comment.
 use anyhow::anyhow;
-use market::day::Day;
-use market::state::{Averages, FamilyState, MarketState};
+use market::state::{Averages, MarketState};
+use opening::opening::{empty_row, unopened};
 use std::alloc::Global;
+use std::num::TryFromIntError;
 use tables::row::{AccountRow, Levels, SecurityRow, TradeRow};
 
 // The market and the account as the file has them, unchecked.
@@ -14,52 +15,15 @@ pub struct Input {
     pub trades: Vec<TradeRow>,
 }
 
-const NO_LEVELS: Levels = Levels {
-    initial: 0,
-    gross: 0,
-};
-
-fn quiet_family() -> FamilyState {
-    FamilyState {
-        volatility: 0,
-        averages: None,
-        thresholds: None,
-        slot: 0,
-        checks: 0,
-        calm: true,
-    }
-}
-
-// A market with nothing set and no security listed.
-pub fn quiet_market(month: u16) -> MarketState {
-    let securities = [SecurityRow {
-        price: 0,
-        haircut: 0,
-        listed: false,
-    }; 32];
-    MarketState {
-        day: Day { month, set: 0 },
-        percent: 0,
-        overnight: quiet_family(),
-        forward: quiet_family(),
-        securities,
-    }
-}
-
-// A record with nothing in it.
-pub fn empty_account() -> AccountRow {
-    let lots = [0; 32];
-    AccountRow {
-        cash: 0,
-        obligation: 0,
-        available: 0,
-        shortfall: 0,
-        lots,
-        overnight: NO_LEVELS,
-        forward: NO_LEVELS,
-        trades: 0,
-        own: false,
-        second: false,
+impl Input {
+    // A market as it opens in month 0, and an account with nothing in it.
+    pub fn empty(heap: Global) -> Input {
+        Input {
+            state: *unopened().market.state(),
+            row: empty_row(),
+            restricted: false,
+            trades: Vec::new(heap),
+        }
     }
 }
 
@@ -75,65 +39,47 @@ fn flag(number: u64) -> anyhow::Result<bool> {
     }
 }
 
-// The numbers of an entry that has one, two, three or four.
-fn one(numbers: &[u64]) -> anyhow::Result<u64> {
-    match numbers {
-        [a] => Ok(*a),
-        _ => unknown(),
-    }
+// The number of an entry that has one.
+fn one<T: TryFrom<u64, Error = TryFromIntError> + Drop>(numbers: &[u64]) -> anyhow::Result<T> {
+    let [number] = numbers else {
+        return unknown();
+    };
+    Ok(T::try_from(*number)?)
 }
 
-fn two(numbers: &[u64]) -> anyhow::Result<(u64, u64)> {
-    match numbers {
-        [a, b] => Ok((*a, *b)),
-        _ => unknown(),
-    }
-}
-
-fn three(numbers: &[u64]) -> anyhow::Result<(u64, u64, u64)> {
-    match numbers {
-        [a, b, c] => Ok((*a, *b, *c)),
-        _ => unknown(),
-    }
-}
-
-fn four(numbers: &[u64]) -> anyhow::Result<(u64, u64, u64, u64)> {
-    match numbers {
-        [a, b, c, d] => Ok((*a, *b, *c, *d)),
-        _ => unknown(),
-    }
-}
-
-// The entries of the market that have one number: the month, the set, the step-up.
-fn set_month(state: &mut MarketState, number: u64) -> anyhow::Result<()> {
-    state.day.month = u16::try_from(number)?;
+fn set_month(state: &mut MarketState, numbers: &[u64]) -> anyhow::Result<()> {
+    state.day.month = one(numbers)?;
     Ok(())
 }
 
-fn set_number(state: &mut MarketState, word: &str, number: u64) -> anyhow::Result<()> {
-    if word == "month" {
-        return set_month(state, number);
-    }
-    let small = u32::try_from(number)?;
-    if word == "set" {
-        state.day.set = small;
-    } else {
-        state.percent = small;
-    }
+fn set_set(state: &mut MarketState, numbers: &[u64]) -> anyhow::Result<()> {
+    state.day.set = one(numbers)?;
+    Ok(())
+}
+
+fn set_step_up(state: &mut MarketState, numbers: &[u64]) -> anyhow::Result<()> {
+    state.percent = one(numbers)?;
     Ok(())
 }
 
 fn set_volatility(state: &mut MarketState, numbers: &[u64]) -> anyhow::Result<()> {
-    let (first, second) = two(numbers)?;
-    state.overnight.volatility = u32::try_from(first)?;
-    state.forward.volatility = u32::try_from(second)?;
+    let [overnight, forward] = numbers else {
+        return unknown();
+    };
+    state.overnight.volatility = u32::try_from(*overnight)?;
+    state.forward.volatility = u32::try_from(*forward)?;
     Ok(())
 }
 
 fn set_averages(state: &mut MarketState, numbers: &[u64]) -> anyhow::Result<()> {
-    let (family, initial, gross) = three(numbers)?;
-    let averages = Some(Averages { initial, gross });
-    match family {
+    let [family, initial, gross] = numbers else {
+        return unknown();
+    };
+    let averages = Some(Averages {
+        initial: *initial,
+        gross: *gross,
+    });
+    match *family {
         0 => state.overnight.averages = averages,
         1 => state.forward.averages = averages,
         _ => return unknown(),
@@ -150,11 +96,13 @@ fn security_of(price: u64, haircut: u64, listed: u64) -> anyhow::Result<Security
 }
 
 fn set_security(state: &mut MarketState, numbers: &[u64]) -> anyhow::Result<()> {
-    let (number, price, haircut, listed) = four(numbers)?;
-    if number >= 32 {
+    let [number, price, haircut, listed] = numbers else {
+        return unknown();
+    };
+    if *number >= 32 {
         return unknown();
     }
-    state.securities[number as usize] = security_of(price, haircut, listed)?;
+    state.securities[*number as usize] = security_of(*price, *haircut, *listed)?;
     Ok(())
 }
 
@@ -164,11 +112,13 @@ fn set_cash(row: &mut AccountRow, numbers: &[u64]) -> anyhow::Result<()> {
 }
 
 fn set_lots(row: &mut AccountRow, numbers: &[u64]) -> anyhow::Result<()> {
-    let (number, lots) = two(numbers)?;
-    if number >= 32 {
+    let [number, lots] = numbers else {
+        return unknown();
+    };
+    if *number >= 32 {
         return unknown();
     }
-    row.lots[number as usize] = u32::try_from(lots)?;
+    row.lots[*number as usize] = u32::try_from(*lots)?;
     Ok(())
 }
 
@@ -180,9 +130,11 @@ fn levels_of(initial: u64, gross: u64) -> anyhow::Result<Levels> {
 }
 
 fn set_levels(row: &mut AccountRow, numbers: &[u64]) -> anyhow::Result<()> {
-    let (family, initial, gross) = three(numbers)?;
-    let levels = levels_of(initial, gross)?;
-    match family {
+    let [family, initial, gross] = numbers else {
+        return unknown();
+    };
+    let levels = levels_of(*initial, *gross)?;
+    match *family {
         0 => row.overnight = levels,
         1 => row.forward = levels,
         _ => return unknown(),
@@ -191,9 +143,11 @@ fn set_levels(row: &mut AccountRow, numbers: &[u64]) -> anyhow::Result<()> {
 }
 
 fn set_flags(row: &mut AccountRow, numbers: &[u64]) -> anyhow::Result<()> {
-    let (own, second) = two(numbers)?;
-    row.own = flag(own)?;
-    row.second = flag(second)?;
+    let [own, second] = numbers else {
+        return unknown();
+    };
+    row.own = flag(*own)?;
+    row.second = flag(*second)?;
     Ok(())
 }
 
@@ -214,7 +168,9 @@ fn trade_of(numbers: &[u64]) -> anyhow::Result<TradeRow> {
 // An entry of the market.
 fn set_market(state: &mut MarketState, word: &str, numbers: &[u64]) -> anyhow::Result<()> {
     match word {
-        "month" | "set" | "step-up" => set_number(state, word, one(numbers)?),
+        "month" => set_month(state, numbers),
+        "set" => set_set(state, numbers),
+        "step-up" => set_step_up(state, numbers),
         "volatility" => set_volatility(state, numbers),
         "averages" => set_averages(state, numbers),
         "security" => set_security(state, numbers),
@@ -270,12 +226,7 @@ fn read_entry(heap: Global, input: &mut Input, line: &str) -> anyhow::Result<()>
 }
 
 pub fn read_account(heap: Global, text: &str) -> anyhow::Result<Input> {
-    let mut input = Input {
-        state: quiet_market(0),
-        row: empty_account(),
-        restricted: false,
-        trades: Vec::new(heap),
-    };
+    let mut input = Input::empty(heap);
     for line in text.lines() {
         read_entry(heap, &mut input, line)?;
     }

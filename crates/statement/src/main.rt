@@ -10,13 +10,16 @@ mod worked;
 
 use account_file::{Input, read_account};
 use anyhow::anyhow;
-use knots::check::check_knots;
-use knots::model::KnotModel;
-use model_file::{Numbers, read_model};
-use models::check::{check_joined, check_table};
+use knots::model::KnotLayout;
+use model_file::read_model;
+use models::check::check_joined;
 use models::joined::Joined;
+use models::layout::Layout;
+use models::model::MarginModel;
 use models::refusal::MakingRefusal;
-use models::table::TableModel;
+use models::table::TableLayout;
+use owned::making::make;
+use owned::owned_model::{OwnedKnots, OwnedNumbers, OwnedTable};
 use report::print_statement;
 use std::{env, fs, io};
 use worked::print_worked;
@@ -29,7 +32,8 @@ fn text_of(rt: &HostRuntime, path: Option<String>) -> anyhow::Result<String> {
     Ok(fs::read_to_string(rt, path.as_str())?)
 }
 
-// A making that was refused: its number, and the place that is out of range. An empty line follows.
+// A making that was refused: its number, and the place that is out of range. An empty line follows. A script says it in other
+// words, so that the refusal has no `Display`.
 fn print_refusal(rt: &HostRuntime, name: &str, refusal: MakingRefusal) -> io::Result<()> {
     let number = refusal.number();
     match refusal.place() {
@@ -42,63 +46,33 @@ fn print_refusal(rt: &HostRuntime, name: &str, refusal: MakingRefusal) -> io::Re
 fn print_joined(
     rt: &HostRuntime,
     input: &Input,
-    table: TableModel,
-    knots: KnotModel,
-    scenarios: (u32, u32),
+    table: &OwnedTable,
+    knots: &OwnedKnots,
 ) -> anyhow::Result<()> {
-    print_statement(rt, input, "table", &table)?;
-    print_statement(rt, input, "knot", &knots)?;
-    if let Err(refusal) = check_joined(scenarios.0, scenarios.1) {
+    print_statement(rt, input, "table", table)?;
+    print_statement(rt, input, "knot", knots)?;
+    if let Err(refusal) = check_joined(table.scenarios(), knots.scenarios()) {
         return Ok(print_refusal(rt, "joined", refusal)?);
     }
     print_statement(rt, input, "joined", &Joined::new(table, knots))
 }
 
 // Makes the two models, each after its check.
-fn print_all<'a>(
-    rt: &HostRuntime,
-    input: &Input,
-    table: (u32, u32, &'a [u32], &'a [u32], &'a [i32]),
-    knots: (u32, u32, &'a [u32], &'a [u32], &'a [i32]),
-) -> anyhow::Result<()> {
-    let (sets, scenarios, rates, ticks, changes) = table;
-    if let Err(refusal) = check_table(sets, scenarios, rates, ticks, changes) {
-        return Ok(print_refusal(rt, "table", refusal)?);
-    }
-    let first = TableModel::new(sets, scenarios, rates, ticks, changes);
-    let (knot_sets, knot_scenarios, knot_rates, knot_ticks, shocks) = knots;
-    if let Err(refusal) = check_knots(knot_sets, knot_scenarios, knot_rates, knot_ticks, shocks) {
-        return Ok(print_refusal(rt, "knot", refusal)?);
-    }
-    let second = KnotModel::new(knot_sets, knot_scenarios, knot_rates, knot_ticks, shocks);
-    print_joined(rt, input, first, second, (scenarios, knot_scenarios))
-}
-
-// The statements on the models whose numbers two files hold.
 fn print_both(
     rt: &HostRuntime,
     input: &Input,
-    table: &Numbers,
-    knots: &Numbers,
+    table: OwnedNumbers,
+    knots: OwnedNumbers,
 ) -> anyhow::Result<()> {
-    print_all(
-        rt,
-        input,
-        (
-            table.sets,
-            table.scenarios,
-            table.rates.as_slice(),
-            table.ticks.as_slice(),
-            table.changes.as_slice(),
-        ),
-        (
-            knots.sets,
-            knots.scenarios,
-            knots.rates.as_slice(),
-            knots.ticks.as_slice(),
-            knots.changes.as_slice(),
-        ),
-    )
+    let table: OwnedTable = match make(table) {
+        Ok(model) => model,
+        Err(refusal) => return Ok(print_refusal(rt, "table", refusal)?),
+    };
+    let knots: OwnedKnots = match make(knots) {
+        Ok(model) => model,
+        Err(refusal) => return Ok(print_refusal(rt, "knot", refusal)?),
+    };
+    print_joined(rt, input, &table, &knots)
 }
 
 // The account that an argument names.
@@ -112,10 +86,20 @@ fn run(rt: &HostRuntime) -> anyhow::Result<()> {
     let _ = args.next();
     let input = input_of(rt, args.next())?;
     let table = text_of(rt, args.next())?;
-    let table = read_model(rt.alloc(), table.as_str(), "table", 484)?;
+    let table = read_model(
+        rt.alloc(),
+        table.as_str(),
+        "table",
+        TableLayout::CELLS as usize,
+    )?;
     let knots = text_of(rt, args.next())?;
-    let knots = read_model(rt.alloc(), knots.as_str(), "knot", 48)?;
-    print_both(rt, &input, &table, &knots)?;
+    let knots = read_model(
+        rt.alloc(),
+        knots.as_str(),
+        "knot",
+        KnotLayout::CELLS as usize,
+    )?;
+    print_both(rt, &input, table, knots)?;
     print_worked(rt)
 }
 

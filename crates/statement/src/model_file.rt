@@ -1,16 +1,7 @@
 // A model's file: `table S N` or `knot S N`, and then the numbers of its tables in their order.
 use anyhow::anyhow;
+use owned::owned_model::OwnedNumbers;
 use std::alloc::Global;
-
-// The numbers of a model as they stand in its file, unchecked.
-#[derive(Drop)]
-pub struct Numbers {
-    pub sets: u32,
-    pub scenarios: u32,
-    pub rates: Vec<u32>,
-    pub ticks: Vec<u32>,
-    pub changes: Vec<i32>,
-}
 
 fn count(word: Option<&str>) -> anyhow::Result<u32> {
     match word {
@@ -19,8 +10,14 @@ fn count(word: Option<&str>) -> anyhow::Result<u32> {
     }
 }
 
-// Reads a model's file. A set has `cells` rates and as many tick values; what follows them are the changes or shocks.
-pub fn read_model(heap: Global, text: &str, kind: &str, cells: usize) -> anyhow::Result<Numbers> {
+// Reads a model's file, and stops at the first word that is no number of its width: crate `modelfile` holds such a number as out of
+// range instead, and tells its place. A set has `cells` rates and as many tick values; what follows them are the changes or shocks.
+pub fn read_model(
+    heap: Global,
+    text: &str,
+    kind: &str,
+    cells: usize,
+) -> anyhow::Result<OwnedNumbers> {
     let mut words = text.split_whitespace();
     match words.next() {
         Some(first) if first == kind => {}
@@ -41,7 +38,7 @@ pub fn read_model(heap: Global, text: &str, kind: &str, cells: usize) -> anyhow:
             changes.push(word.parse::<i32>()?)?;
         }
     }
-    Ok(Numbers {
+    Ok(OwnedNumbers {
         sets,
         scenarios,
         rates,

@@ -1,5 +1,5 @@
 // The worked figures, each beside what it should be.
-use super::account_file::{Input, empty_account, quiet_market};
+use super::account_file::Input;
 use super::report::figures_of;
 use anyhow::anyhow;
 use margins::charges::next_level;
@@ -7,8 +7,8 @@ use margins::figures::BenchmarkFigures;
 use margins::flags::own_flag;
 use market::state::Thresholds;
 use market::volatility::check_tenths;
-use owned::making::make_table;
-use owned::owned_table::OwnedTable;
+use owned::making::make;
+use owned::owned_model::{OwnedNumbers, OwnedTable};
 use std::alloc::Global;
 use std::io;
 use tables::row::{SecurityRow, TradeRow};
@@ -36,10 +36,14 @@ fn worked_model(heap: Global) -> anyhow::Result<OwnedTable> {
     let rates = vec![in heap; 65_500u32; 484]?;
     let ticks = vec![in heap; 10_000u32; 484]?;
     let changes = vec![in heap; 0i32; 9_680]?;
-    match make_table(1, 20, rates, ticks, changes) {
-        Ok(model) => Ok(model),
-        Err(_) => Err(anyhow!("the model of the worked figures is refused")),
-    }
+    make(OwnedNumbers {
+        sets: 1,
+        scenarios: 20,
+        rates,
+        ticks,
+        changes,
+    })
+    .map_err(|_| anyhow!("the model of the worked figures is refused"))
 }
 
 // The figures of trades in MIBOR.
@@ -48,12 +52,8 @@ fn mibor(
     model: &OwnedTable,
     trades: &[TradeRow],
 ) -> anyhow::Result<BenchmarkFigures> {
-    let input = Input {
-        state: quiet_market(300),
-        row: empty_account(),
-        restricted: false,
-        trades: Vec::new(rt.alloc()),
-    };
+    let mut input = Input::empty(rt.alloc());
+    input.state.day.month = 300;
     Ok(figures_of(model, &input, trades)?.overnight.first)
 }
 
@@ -99,10 +99,10 @@ fn print_mark(rt: &HostRuntime, model: &OwnedTable) -> anyhow::Result<()> {
 // The second highest of three losses.
 fn second_loss() -> anyhow::Result<u64> {
     let mut places = [0i64; 2];
-    match kth_highest(&[9i64, 9, 5], &mut places) {
-        Some(loss) => Ok(loss.unsigned_abs()),
-        None => Err(anyhow!("three losses have a second highest")),
-    }
+    let Some(loss) = kth_highest(&[9i64, 9, 5], &mut places) else {
+        return Err(anyhow!("three losses have a second highest"));
+    };
+    Ok(loss.unsigned_abs())
 }
 
 fn tenths() -> u32 {
@@ -120,10 +120,10 @@ fn lots_value() -> anyhow::Result<u64> {
         haircut: 4,
         listed: true,
     };
-    match Security::from_row(row) {
-        Some(security) => Ok(security.lots_value(10)),
-        None => Err(anyhow!("the security of the worked figures is refused")),
-    }
+    let Some(security) = Security::from_row(row) else {
+        return Err(anyhow!("the security of the worked figures is refused"));
+    };
+    Ok(security.lots_value(10))
 }
 
 fn print_charges(rt: &HostRuntime) -> anyhow::Result<()> {

@@ -1,69 +1,42 @@
--- A test of every element: the steps of a loop, and what it tells of one element.
-use Rattle.std.proofs.Common.{◌≡◌, ℕ, zero, suc, ◌+◌, ◌<◌, ◌≤◌, Bool, true, false, cond, ◌&&◌, List, [], ◌∷◌, ◌++◌, map, length, get_or, take, drop, set, replicate, filter, refl, ap, ◌∙◌, arith}
-use Rattle.std.specs.List.{AllByRecursion}
-use Rattle.std.proofs.lemmas.List.{at_drop_more, at_drop_all}
-use Rattle.std.proofs.lemmas.Bool.{and_from, and_parts, and_left}
-use Rattle.tables.specs.Lists.{all_by}
+-- A test of every element: what it tells of one, and what keeps it.
+use Rattle.std.proofs.Common.{◌≡◌, ℕ, ◌<◌, Bool, true, List, ◌++◌, map, length, get_or, take, drop, set, replicate, filter}
+use Rattle.std.specs.List.{All, AllPass, list_all}
+use Rattle.std.proofs.lemmas.List.Elements.{All-weaker, All-get_or, All-set, All-filter, All-append, All-drop, All-take, All-map, All-replicate}
+use Rattle.std.proofs.lemmas.List.Sums.{AllPass-from_list_all, list_all-from_AllPass}
 
 module _ {X : Type 0} (p : X → Bool) where
-  -- a loop over a list: what is left decides
-  pub all_by_no : (xs : List X) (i : ℕ) (d : X) → i < length xs → p (get_or xs i d) ≡ false → all_by p (drop i xs) ≡ false
-  all_by_no xs i d h e = at_drop_more (all_by p) xs i d h ∙ and_left (p (get_or xs i d)) (all_by p (drop (i + 1) xs)) e
+  abbrev passes : X → Type 0
+  passes x = p x ≡ true
 
-  pub all_by_more : (xs : List X) (i : ℕ) (d : X) → i < length xs → p (get_or xs i d) ≡ true → all_by p (drop i xs) ≡ all_by p (drop (i + 1) xs)
-  all_by_more xs i d h e = at_drop_more (all_by p) xs i d h ∙ ap (λ (b : Bool). b && all_by p (drop (i + 1) xs)) e
-
-  pub all_by_all : (xs : List X) (i : ℕ) → length xs ≤ i → all_by p (drop i xs) ≡ true
-  all_by_all xs i h = at_drop_all (all_by p) xs i h
+  by_each : (xs ys : List X) → (AllPass p xs → AllPass p ys) → list_all p xs ≡ true → list_all p ys ≡ true
+  by_each xs ys f h = list_all-from_AllPass p ys (f (AllPass-from_list_all p xs h))
 
   -- what a test tells of each element
-  pub all_from : (P : X → Type 0) → ((x : X) → p x ≡ true → P x) → (xs : List X) → all_by p xs ≡ true → AllByRecursion P xs
-  all_from P tells [] h = tt
-  all_from P tells (x ∷ xs) h = let both = and_parts (p x) (all_by p xs) h in (tells x both.0, all_from P tells xs both.1)
+  pub all_from : (P : X → Type 0) → ((x : X) → p x ≡ true → P x) → (xs : List X) → list_all p xs ≡ true → All P xs
+  all_from P tells xs h = All-weaker passes P tells xs (AllPass-from_list_all p xs h)
 
-  pub all_by_set : (xs : List X) (i : ℕ) (v : X) → p v ≡ true → all_by p xs ≡ true → all_by p (set xs i v) ≡ true
-  all_by_set [] i v e h = h
-  all_by_set (x ∷ xs) zero v e h = and_from (p v) (all_by p xs) e (and_parts (p x) (all_by p xs) h).1
-  all_by_set (x ∷ xs) (suc i) v e h =
-      and_from (p x) (all_by p (set xs i v)) (and_parts (p x) (all_by p xs) h).0
-      (all_by_set xs i v e (and_parts (p x) (all_by p xs) h).1)
+  pub list_all_set : (xs : List X) (i : ℕ) (v : X) → p v ≡ true → list_all p xs ≡ true → list_all p (set xs i v) ≡ true
+  list_all_set xs i v e = by_each xs (set xs i v) (All-set passes xs i v e)
 
   -- what a filter keeps passes as well
-  pub all_by_kept : (q : X → Bool) (xs : List X) → all_by p xs ≡ true → all_by p (filter q xs) ≡ true
-  all_by_kept q [] h = h
-  all_by_kept q (x ∷ xs) h =
-      let both = and_parts (p x) (all_by p xs) h in
-      elim (q x) as (λ b. all_by p (cond b (x ∷ filter q xs) (filter q xs)) ≡ true) [
-        | true ↦ and_from (p x) (all_by p (filter q xs)) both.0 (all_by_kept q xs both.1)
-        | false ↦ all_by_kept q xs both.1
-      ]
+  pub list_all_kept : (q : X → Bool) (xs : List X) → list_all p xs ≡ true → list_all p (filter q xs) ≡ true
+  list_all_kept q xs = by_each xs (filter q xs) (All-filter q passes xs)
 
-  pub all_by_at : (xs : List X) (i : ℕ) (d : X) → i < length xs → all_by p xs ≡ true → p (get_or xs i d) ≡ true
-  all_by_at [] i d h e = absurd (omega arith)
-  all_by_at (x ∷ xs) zero d h e = (and_parts (p x) (all_by p xs) e).0
-  all_by_at (x ∷ xs) (suc i) d h e = all_by_at xs i d (omega arith) (and_parts (p x) (all_by p xs) e).1
+  pub list_all_at : (xs : List X) (i : ℕ) (d : X) → i < length xs → list_all p xs ≡ true → p (get_or xs i d) ≡ true
+  list_all_at xs i d l h = All-get_or passes xs i d l (AllPass-from_list_all p xs h)
 
-  pub all_by_append : (xs ys : List X) → all_by p xs ≡ true → all_by p ys ≡ true → all_by p (xs ++ ys) ≡ true
-  all_by_append [] ys h k = k
-  all_by_append (x ∷ xs) ys h k =
-      let both = and_parts (p x) (all_by p xs) h in and_from (p x) (all_by p (xs ++ ys)) both.0 (all_by_append xs ys both.1 k)
+  pub list_all_append : (xs ys : List X) → list_all p xs ≡ true → list_all p ys ≡ true → list_all p (xs ++ ys) ≡ true
+  list_all_append xs ys h k = by_each xs (xs ++ ys) (λ a. All-append passes xs ys a (AllPass-from_list_all p ys k)) h
 
-  pub all_by_drop : (n : ℕ) (xs : List X) → all_by p xs ≡ true → all_by p (drop n xs) ≡ true
-  all_by_drop zero xs h = h
-  all_by_drop (suc n) [] h = refl
-  all_by_drop (suc n) (x ∷ xs) h = all_by_drop n xs (and_parts (p x) (all_by p xs) h).1
+  pub list_all_drop : (n : ℕ) (xs : List X) → list_all p xs ≡ true → list_all p (drop n xs) ≡ true
+  list_all_drop n xs = by_each xs (drop n xs) (All-drop passes n xs)
 
-  pub all_by_take : (n : ℕ) (xs : List X) → all_by p xs ≡ true → all_by p (take n xs) ≡ true
-  all_by_take zero xs h = refl
-  all_by_take (suc n) [] h = refl
-  all_by_take (suc n) (x ∷ xs) h =
-      let both = and_parts (p x) (all_by p xs) h in and_from (p x) (all_by p (take n xs)) both.0 (all_by_take n xs both.1)
+  pub list_all_take : (n : ℕ) (xs : List X) → list_all p xs ≡ true → list_all p (take n xs) ≡ true
+  list_all_take n xs = by_each xs (take n xs) (All-take passes n xs)
 
-  pub all_by_map : {Y : Type 0} (q : Y → Bool) (f : Y → X) → ((y : Y) → q y ≡ true → p (f y) ≡ true) → (ys : List Y) → all_by q ys ≡ true → all_by p (map f ys) ≡ true
-  all_by_map q f k [] h = refl
-  all_by_map q f k (y ∷ ys) h =
-      let both = and_parts (q y) (all_by q ys) h in and_from (p (f y)) (all_by p (map f ys)) (k y both.0) (all_by_map q f k ys both.1)
+  pub list_all_map : {Y : Type 0} (q : Y → Bool) (f : Y → X) → ((y : Y) → q y ≡ true → p (f y) ≡ true) → (ys : List Y) → list_all q ys ≡ true → list_all p (map f ys) ≡ true
+  list_all_map q f k ys h =
+      list_all-from_AllPass p (map f ys) (All-map passes f ys (All-weaker (λ y. q y ≡ true) (λ y. p (f y) ≡ true) k ys (AllPass-from_list_all q ys h)))
 
-  pub all_by_replicate : (x : X) (n : ℕ) → p x ≡ true → all_by p (replicate n x) ≡ true
-  all_by_replicate x zero h = refl
-  all_by_replicate x (suc n) h = and_from (p x) (all_by p (replicate n x)) h (all_by_replicate x n h)
+  pub list_all_replicate : (x : X) (n : ℕ) → p x ≡ true → list_all p (replicate n x) ≡ true
+  list_all_replicate x n e = list_all-from_AllPass p (replicate n x) (All-replicate passes n x e)

@@ -7,8 +7,8 @@ use Rattle.tables.specs.declared.row.AccountRow.{AccountRow}
 use Rattle.tables.specs.declared.row.TradeRow.{TradeRow}
 use Rattle.tables.specs.Books.{Book, book, books_of, no_book, no_row, places_at, rows_in, places_in, put_places}
 use Rattle.tables.specs.Limits.{book_keeps, house_keeps, constituent_keeps, tables_keep}
-use Rattle.tables.specs.Lists.{all_by}
-use Rattle.tables.proofs.Alls.{all_by_at, all_by_set}
+use Rattle.std.specs.List.{list_all}
+use Rattle.tables.proofs.Alls.{list_all_at, list_all_set}
 
 pub length_books : (rs : List AccountRow) (ts : List TradeRow) → length (books_of rs ts) ≡ length rs
 length_books [] ts = refl
@@ -119,15 +119,15 @@ pub record Kept (n : ℕ) (rs : List AccountRow) (ts : List TradeRow) : Type 0 w
   pub rows : length rs ≡ n
   pub places : length ts ≡ 64 * n
   pub house : house_keeps (get_or (books_of rs ts) 0 no_book) ≡ true
-  pub constituents : all_by constituent_keeps (drop 1 (books_of rs ts)) ≡ true
+  pub constituents : list_all constituent_keeps (drop 1 (books_of rs ts)) ≡ true
   pub each : (i : ℕ) → i < n → book_keeps (most_of i) (book (get_or rs i no_row) (places_at ts i)) ≡ true
 
 pub kept : (n : ℕ) (rs : List AccountRow) (ts : List TradeRow) → tables_keep n rs ts ≡ true → Kept n rs ts
 kept n rs ts h =
     let bs = books_of rs ts in
-    let a = and_parts (eqb (length rs) n) (eqb (length ts) (64 * n) && (house_keeps (get_or bs 0 no_book) && all_by constituent_keeps (drop 1 bs))) h in
-    let b = and_parts (eqb (length ts) (64 * n)) (house_keeps (get_or bs 0 no_book) && all_by constituent_keeps (drop 1 bs)) a.1 in
-    let c = and_parts (house_keeps (get_or bs 0 no_book)) (all_by constituent_keeps (drop 1 bs)) b.1 in
+    let a = and_parts (eqb (length rs) n) (eqb (length ts) (64 * n) && (house_keeps (get_or bs 0 no_book) && list_all constituent_keeps (drop 1 bs))) h in
+    let b = and_parts (eqb (length ts) (64 * n)) (house_keeps (get_or bs 0 no_book) && list_all constituent_keeps (drop 1 bs)) a.1 in
+    let c = and_parts (house_keeps (get_or bs 0 no_book)) (list_all constituent_keeps (drop 1 bs)) b.1 in
     let long : length rs ≡ n = eqb-true (length rs) n a.0 in
     let one : (i : ℕ) → i < n → book_keeps (most_of i) (book (get_or rs i no_row) (places_at ts i)) ≡ true =
     λ i. elim i as (λ j. j < n → book_keeps (most_of j) (book (get_or rs j no_row) (places_at ts j)) ≡ true) [
@@ -135,12 +135,12 @@ kept n rs ts h =
       | suc j ↦ λ l.
           let lb : j < length (drop 1 bs) = omega (arith, length-drop 1 bs, length_books rs ts) in
           ap constituent_keeps (sym (book_at rs ts (suc j) no_row no_book (omega arith)) ∙ sym (get_or-drop 1 bs j no_book ∙ ap (λ (x : ℕ). get_or bs x no_book) (omega arith)))
-          ∙ all_by_at constituent_keeps (drop 1 bs) j no_book lb c.1
+          ∙ list_all_at constituent_keeps (drop 1 bs) j no_book lb c.1
     ] in
     record { rows = long; places = eqb-true (length ts) (64 * n) b.0; house = c.0; constituents = c.1; each = one }
 
 -- and back
-pub keeps_from : (n : ℕ) (rs : List AccountRow) (ts : List TradeRow) → length rs ≡ n → length ts ≡ 64 * n → house_keeps (get_or (books_of rs ts) 0 no_book) ≡ true → all_by constituent_keeps (drop 1 (books_of rs ts)) ≡ true → tables_keep n rs ts ≡ true
+pub keeps_from : (n : ℕ) (rs : List AccountRow) (ts : List TradeRow) → length rs ≡ n → length ts ≡ 64 * n → house_keeps (get_or (books_of rs ts) 0 no_book) ≡ true → list_all constituent_keeps (drop 1 (books_of rs ts)) ≡ true → tables_keep n rs ts ≡ true
 keeps_from n rs ts a b h k = and_from _ _ (eq-eqb (length rs) n a) (and_from _ _ (eq-eqb (length ts) (64 * n) b) (and_from _ _ h k))
 
 pub length_put : (ts : List TradeRow) (i : ℕ) (ps : List TradeRow) → 64 * i + 64 ≤ length ts → length ps ≡ 64 → length (put_places ts i ps) ≡ length ts
@@ -161,10 +161,10 @@ put_keeps n rs ts i q ps h l e fits =
     let both = go bs i b (omega (arith, s.rows, length_books rs ts)) s.house s.constituents fits in
     keeps_from n (set rs i q) (put_places ts i ps) (length-set rs i q ∙ s.rows) (length_put ts i ps (omega (arith, s.places)) e ∙ s.places)
     (ap (λ (l : List Book). house_keeps (get_or l 0 no_book)) is ∙ both.0)
-    (ap (λ (l : List Book). all_by constituent_keeps (drop 1 l)) is ∙ both.1)
+    (ap (λ (l : List Book). list_all constituent_keeps (drop 1 l)) is ∙ both.1)
   where
-    go : (bs : List Book) (i : ℕ) (b : Book) → i < length bs → house_keeps (get_or bs 0 no_book) ≡ true → all_by constituent_keeps (drop 1 bs) ≡ true → book_keeps (most_of i) b ≡ true
-        → (house_keeps (get_or (set bs i b) 0 no_book) ≡ true) × (all_by constituent_keeps (drop 1 (set bs i b)) ≡ true)
+    go : (bs : List Book) (i : ℕ) (b : Book) → i < length bs → house_keeps (get_or bs 0 no_book) ≡ true → list_all constituent_keeps (drop 1 bs) ≡ true → book_keeps (most_of i) b ≡ true
+        → (house_keeps (get_or (set bs i b) 0 no_book) ≡ true) × (list_all constituent_keeps (drop 1 (set bs i b)) ≡ true)
     go [] i b l h k f = absurd (omega arith)
     go (a ∷ bs) zero b l h k f = (f, k)
-    go (a ∷ bs) (suc j) b l h k f = (h, all_by_set constituent_keeps bs j b f k)
+    go (a ∷ bs) (suc j) b l h k f = (h, list_all_set constituent_keeps bs j b f k)

@@ -1,11 +1,10 @@
 -- What the limits of a record tell, each fact under its name.
 use Rattle.std.proofs.Common.{◌≡◌, ℕ, ◌≤◌, true, ◌&&◌, leb, List, take, drop, arith, length-take}
-use Rattle.std.specs.List.{AllByRecursion}
+use Rattle.std.specs.List.{All, list_all}
 use Rattle.std.proofs.lemmas.Bool.{and_parts, and_from, leb-true, le-leb}
 use Rattle.tables.specs.declared.row.AccountRow.{AccountRow}
 use Rattle.tables.specs.declared.row.TradeRow.{TradeRow}
 use Rattle.tables.specs.Books.{Book}
-use Rattle.tables.specs.Lists.{all_by}
 use Rattle.tables.specs.Limits.{holdings_keep, levels_keep, lots_keep, figures_keep, places_keep, book_keeps, trade_keeps, is_empty, trades_stand}
 use Rattle.tables.proofs.Alls.{all_from}
 
@@ -14,7 +13,7 @@ pub record Held (r : AccountRow) : Type 0 where
   pub trades : r.trades ≤ 64
   pub overnight : levels_keep r.overnight ≡ true
   pub forward : levels_keep r.forward ≡ true
-  pub lots : AllByRecursion (λ n. n ≤ 1000000) r.lots
+  pub lots : All (λ n. n ≤ 1000000) r.lots
 
 pub held : (r : AccountRow) → holdings_keep r ≡ true → Held r
 held r h =
@@ -63,6 +62,6 @@ booked_from most b k = and_from _ _ k.holdings (and_from _ _ k.figures k.places)
 -- the trades that stand in a book stand
 pub standing_stands : (n : ℕ) (ps : List TradeRow) → places_keep n ps ≡ true → trades_stand (take n ps) ≡ true
 standing_stands n ps h =
-    let p = and_parts (leb n 64) (all_by trade_keeps (take n ps) && all_by is_empty (drop n ps)) h in
-    let q = and_parts (all_by trade_keeps (take n ps)) (all_by is_empty (drop n ps)) p.1 in
+    let p = and_parts (leb n 64) (list_all trade_keeps (take n ps) && list_all is_empty (drop n ps)) h in
+    let q = and_parts (list_all trade_keeps (take n ps)) (list_all is_empty (drop n ps)) p.1 in
     and_from _ _ (le-leb _ 64 (omega (arith, leb-true n 64 p.0, length-take n ps))) q.0

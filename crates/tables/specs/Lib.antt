@@ -2,5 +2,4 @@ pub mod Books
 pub mod Codes
 pub mod Collateral
 pub mod Limits
-pub mod Lists
 pub mod Numbers

@@ -13,7 +13,7 @@ use Rattle.tables.specs.declared.row.Levels.{Levels}
 use Rattle.tables.specs.declared.row.SecurityRow.{SecurityRow}
 use Rattle.tables.specs.declared.row.TradeRow.{TradeRow}
 use Rattle.tables.specs.Books.{Book, books_of, no_book}
-use Rattle.tables.specs.Lists.{all_by}
+use Rattle.std.specs.List.{list_all}
 
 abbrev pub no_trade : TradeRow
 no_trade = record { number = 0; benchmark = 0; side = 0; maturity = 0; notional = 0; rate = 0 }
@@ -26,10 +26,10 @@ trade_keeps t =
     nat_le t.benchmark 3 && (nat_le t.side 1 && (nat_le 1 t.notional && (nat_le t.notional 1000000 && nat_le t.rate 200000)))
 
 abbrev pub trades_stand : List TradeRow → Bool
-trades_stand ts = nat_le (length ts) 64 && all_by trade_keeps ts
+trades_stand ts = nat_le (length ts) 64 && list_all trade_keeps ts
 
 abbrev pub lots_keep : List ℕ → Bool
-lots_keep ls = all_by (λ n. nat_le n 1000000) ls
+lots_keep ls = list_all (λ n. nat_le n 1000000) ls
 
 abbrev pub levels_keep : Levels → Bool
 levels_keep l = nat_le l.initial 2 && nat_le l.gross 2
@@ -47,7 +47,7 @@ is_empty t =
     (t.number == 0) && (t.benchmark == 0 && (t.side == 0 && (t.maturity == 0 && (t.notional == 0 && t.rate == 0))))
 
 abbrev pub places_keep : ℕ → List TradeRow → Bool
-places_keep n ps = nat_le n 64 && (all_by trade_keeps (take n ps) && all_by is_empty (drop n ps))
+places_keep n ps = nat_le n 64 && (list_all trade_keeps (take n ps) && list_all is_empty (drop n ps))
 
 -- `most` is the most that obligation and shortfall may be
 abbrev pub figures_keep : ℕ → AccountRow → Bool
@@ -67,4 +67,4 @@ abbrev pub tables_keep : ℕ → List AccountRow → List TradeRow → Bool
 tables_keep n rs ts =
     (length rs == n)
     && (length ts == 64 * n
-    && (house_keeps (slice_index_or (books_of rs ts) 0 no_book) && all_by constituent_keeps (drop 1 (books_of rs ts))))
+    && (house_keeps (slice_index_or (books_of rs ts) 0 no_book) && list_all constituent_keeps (drop 1 (books_of rs ts))))

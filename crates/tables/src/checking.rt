@@ -1,37 +1,21 @@
 // Question 1: whether the two tables have the right lengths, and every account keeps its limits.
-ghost use Rattle.std.specs.Prelude.{◌≡◌, ◌+◌, ◌*◌, ◌<◌, ◌≤◌, length, drop, slice_index_or};
-ghost use Rattle.tables.specs.Lists.{all_by};
+ghost use Rattle.std.specs.Prelude.{◌≡◌, ◌&&◌, ◌*◌, ◌<◌, ◌≤◌, length, drop, slice_index_or};
+ghost use Rattle.std.specs.List.{list_all};
 ghost use Rattle.tables.specs.Books.{book, books_of, places_at, no_row, no_book};
 ghost use Rattle.tables.specs.Limits.{is_empty, places_keep, figures_keep, book_keeps, house_keeps, constituent_keeps, tables_keep};
 
 use super::limits::{each_keeps, holdings_keep};
-use super::row::{AccountRow, TradeRow};
+use super::row::{AccountRow, NO_TRADE, TradeRow};
 
 // The most that the obligation and the shortfall of the house, and of a constituent, may be.
 const HOUSE_MOST: u64 = 96_000_000_000_000_000;
 
 const CONSTITUENT_MOST: u64 = 3_000_000_000_000_000;
 
-fn place_is_empty(place: &TradeRow) -> bool
-    ensures { result ≡ is_empty place.now }
-{
-    place.number == 0
-        && place.benchmark == 0
-        && place.side == 0
-        && place.maturity == 0
-        && place.notional == 0
-        && place.rate == 0
-}
-
 fn all_empty(places: &[TradeRow]) -> bool
-    ensures { result ≡ all_by is_empty places.now }
+    ensures { result ≡ list_all is_empty places.now }
 {
-    for place in places {
-        if !place_is_empty(place) {
-            return false;
-        }
-    }
-    true
+    places.iter().all(|place| *place == NO_TRADE)
 }
 
 fn places_keep(count: u8, places: &[TradeRow]) -> bool
@@ -58,41 +42,32 @@ fn book_keeps(most: u64, row: &AccountRow, places: &[TradeRow]) -> bool
     holdings_keep(row) && figures_keep(most, row) && places_keep(row.trades, places)
 }
 
-// The places of one account.
-pub(crate) fn places_of(trades: &[TradeRow], account: usize) -> &[TradeRow]
-    requires { 64 * account + 64 ≤ length trades.now }
-    ensures { result.now ≡ places_at trades.now account }
-{
-    let start = 64 * account;
-    &trades[start..start + 64]
-}
-
-fn account_keeps(most: u64, records: &[AccountRow], trades: &[TradeRow], account: usize) -> bool
-    requires account_in_bounds { account < length records.now }
-    requires trades_len { length trades.now ≡ 64 * length records.now }
-    ensures { result ≡ book_keeps most (book (slice_index_or records.now account no_row) (places_at trades.now account)) }
-{
-    book_keeps(most, &records[account], places_of(trades, account))
-}
-
+// Whether every constituent keeps its limits.
 fn constituents_keep(records: &[AccountRow], trades: &[TradeRow]) -> bool
     requires { length trades.now ≡ 64 * length records.now }
-    ensures { result ≡ all_by constituent_keeps (drop 1 (books_of records.now trades.now)) }
+    ensures { result ≡ list_all constituent_keeps (books_of records.now trades.now) }
 {
-    for i in 1..records.len() {
-        if !account_keeps(CONSTITUENT_MOST, records, trades, i) {
+    // Tried as one `all`: its closure's need of 64 places in each chunk does not close.
+    for (row, places) in records.iter().zip(trades.chunks_exact(64)) {
+        if !book_keeps(CONSTITUENT_MOST, row, places) {
             return false;
         }
     }
     true
 }
 
-// Whether the house's own account keeps its limits; true where there is none.
-fn own_keeps(records: &[AccountRow], trades: &[TradeRow]) -> bool
+// Whether the house's own account and every constituent keep their limits; true where there is no account.
+fn accounts_keep(records: &[AccountRow], trades: &[TradeRow]) -> bool
     requires { length trades.now ≡ 64 * length records.now }
-    ensures { result ≡ house_keeps (slice_index_or (books_of records.now trades.now) 0 no_book) }
+    ensures { result ≡ (house_keeps (slice_index_or (books_of records.now trades.now) 0 no_book) && list_all constituent_keeps (drop 1 (books_of records.now trades.now))) }
 {
-    records.is_empty() || account_keeps(HOUSE_MOST, records, trades, 0)
+    match records {
+        [] => true,
+        [own, constituents @ ..] => {
+            let (first, others) = trades.split_at(64);
+            book_keeps(HOUSE_MOST, own, first) && constituents_keep(constituents, others)
+        }
+    }
 }
 
 // Question 1, of a house with so many accounts.
@@ -101,6 +76,5 @@ pub fn tables_keep(accounts: u32, records: &[AccountRow], trades: &[TradeRow]) -
 {
     records.len() == accounts as usize
         && trades.len() == 64 * accounts as usize
-        && own_keeps(records, trades)
-        && constituents_keep(records, trades)
+        && accounts_keep(records, trades)
 }

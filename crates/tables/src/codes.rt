@@ -2,60 +2,57 @@
 ghost use Rattle.std.specs.Prelude.{◌≡◌, ◌<◌};
 ghost use Rattle.tables.specs.Codes.{side_of, benchmark_code, family_of, first_benchmark, second_benchmark};
 
-#[derive(Clone, Copy)]
+#[derive(Clone, Copy, PartialEq, Eq)]
 pub enum Side {
     Pay,
     Receive,
 }
 
-#[derive(Clone, Copy)]
+#[derive(Clone, Copy, PartialEq, Eq)]
 pub enum Benchmark {
-    Mibor,
-    Miois,
-    Mifor,
-    ModifiedMifor,
+    Mibor = 0,
+    Miois = 1,
+    Mifor = 2,
+    ModifiedMifor = 3,
 }
 
 // Family 0 is MIBOR and MIOIS, family 1 is MIFOR and modified MIFOR.
-#[derive(Clone, Copy)]
+#[derive(Clone, Copy, PartialEq, Eq)]
 pub enum Family {
     Overnight,
     Forward,
 }
 
-impl Side {
-    // Code 0 is pay.
-    pub fn of(code: u8) -> Side
-        ensures { result ≡ side_of code }
-    {
+impl From<u8> for Side {
+    ghost from_gives = { λ code side. side ≡ side_of code };
+
+    // Code 0 is pay. Any number may come: the limits of rows allow 0 and 1.
+    fn from(code: u8) -> Side {
         if code == 0 { Side::Pay } else { Side::Receive }
     }
 }
 
-impl Benchmark {
-    pub fn code(self) -> u32
-        ensures { result ≡ benchmark_code self }
-    {
-        match self {
-            Benchmark::Mibor => 0,
-            Benchmark::Miois => 1,
-            Benchmark::Mifor => 2,
-            Benchmark::ModifiedMifor => 3,
-        }
+impl From<Benchmark> for u32 {
+    ghost from_gives = { λ benchmark code. code ≡ benchmark_code benchmark };
+
+    fn from(benchmark: Benchmark) -> u32 {
+        benchmark as u32
     }
 }
 
-impl Family {
-    // Code 0 is the overnight family.
-    pub fn of(code: u32) -> Family
-        ensures { result ≡ family_of code }
-    {
+impl From<u32> for Family {
+    ghost from_gives = { λ code family. family ≡ family_of code };
+
+    // Code 0 is the overnight family. Any number may come: the calls that name a family refuse one above 1.
+    fn from(code: u32) -> Family {
         match code {
             0 => Family::Overnight,
             _ => Family::Forward,
         }
     }
+}
 
+impl Family {
     pub fn first(self) -> Benchmark
         ensures { result ≡ first_benchmark self }
     {

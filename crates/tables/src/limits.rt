@@ -1,6 +1,6 @@
 // Whether rows keep their limits.
 ghost use Rattle.std.specs.Prelude.{◌≡◌};
-ghost use Rattle.tables.specs.Lists.{all_by};
+ghost use Rattle.std.specs.List.{list_all};
 ghost use Rattle.tables.specs.Limits.{trade_keeps, trades_stand, lots_keep, levels_keep, holdings_keep, security_keeps};
 
 use super::row::{AccountRow, Levels, SecurityRow, TradeRow};
@@ -16,14 +16,9 @@ pub fn trade_keeps(trade: &TradeRow) -> bool
 }
 
 pub(crate) fn each_keeps(trades: &[TradeRow]) -> bool
-    ensures { result ≡ all_by trade_keeps trades.now }
+    ensures { result ≡ list_all trade_keeps trades.now }
 {
-    for trade in trades {
-        if !trade_keeps(trade) {
-            return false;
-        }
-    }
-    true
+    trades.iter().all(trade_keeps)
 }
 
 // Whether these may be an account's standing trades.
@@ -36,12 +31,7 @@ pub fn trades_stand(trades: &[TradeRow]) -> bool
 fn lots_keep(lots: &[u32]) -> bool
     ensures { result ≡ lots_keep lots.now }
 {
-    for count in lots {
-        if *count > 1_000_000 {
-            return false;
-        }
-    }
-    true
+    lots.iter().all(|count| *count <= 1_000_000)
 }
 
 fn levels_keep(levels: Levels) -> bool
@@ -69,12 +59,7 @@ pub fn security_keeps(security: &SecurityRow) -> bool
 
 // Whether every security keeps its limits.
 pub fn securities_keep(securities: &[SecurityRow]) -> bool
-    ensures { result ≡ all_by security_keeps securities.now }
+    ensures { result ≡ list_all security_keeps securities.now }
 {
-    for security in securities {
-        if !security_keeps(security) {
-            return false;
-        }
-    }
-    true
+    securities.iter().all(security_keeps)
 }

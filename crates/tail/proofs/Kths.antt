@@ -1,11 +1,12 @@
 -- The k-th of the entries from the highest down is the k-th highest.
-use Rattle.std.proofs.Common.{◌≡◌, ℕ, zero, suc, ◌+◌, ◌-◌, ◌<◌, ◌≤◌, min, Bool, true, false, cond, List, [], ◌∷◌, ◌++◌, length, get_or, take, fold, count_by, sym, refl, ap, ◌∙◌, subst, true≢false, arith}
+use Rattle.std.proofs.Common.{◌≡◌, ℕ, zero, suc, ◌+◌, ◌-◌, ◌<◌, ◌≤◌, min, Bool, true, false, cond, List, [], ◌∷◌, ◌++◌, length, get_or, take, fold, count_by, ◌⊎◌, inl, inr, ⊎_elim, Option, None, Some, MatchOption, sym, refl, ap, ◌∙◌, subst, true≢false, arith}
 use Rattle.std.specs.List.{ContainsAt, AllByRecursion}
+use Rattle.std.proofs.lemmas.Bool.{cases_lt}
 use Rattle.std.proofs.lemmas.List.Sums.{sum_by-cons, fold_push}
 use Rattle.std.proofs.lemmas.List.{get_or-take, get_or_default, take_all, take_at, take_more, length_push, length-take-le}
 use Rattle.std.proofs.ByRecursion.{All-weaker, All-get_or, All-take, all_has_itself}
 use Rattle.tail.proofs.Places.{placed_take}
-use Rattle.tail.specs.Tail.{Orders, Holds, placed, ranked, count_at_least, Kth}
+use Rattle.tail.specs.Tail.{Orders, Holds, placed, ranked, count_at_least, Kth, Short}
 
 abbrev one : Bool → ℕ
 one b = cond b 1 0
@@ -148,9 +149,6 @@ module _ {X : Type 0} {ge : X → X → Bool} (o : Orders ge) where
       }
 
 module _ {X : Type 0} (ge : X → X → Bool) where
-  pub holds_none : (ps : List X) → Holds ge [] 0 ps
-  holds_none ps = record { count = omega arith; top = sym (take_all (length ps) [] (omega arith)) }
-
   pub holds_push : (xs ps qs : List X) (f r : ℕ) (x : X) → length qs ≡ length ps → r ≡ min (f + 1) (length ps) → take r qs ≡ take (length ps) (placed ge x (take f ps)) → Holds ge xs f ps → Holds ge (xs ++ x ∷ []) r qs
   holds_push xs ps qs f r x same count top h = record {
     count = let c = h.count in omega (arith, length_push xs x);
@@ -220,3 +218,9 @@ module _ {X : Type 0} {ge : X → X → Bool} (o : Orders ge) where
             ∙ placed_take ge n x (ranked ge xs)
             ∙ ap (take n) (sym (fold_push (λ zs z. placed ge z zs) [] xs x));
       }
+
+  -- the lowest that is kept, where every place is in use, and what that there is none tells
+  pub kth_of : (xs ps : List X) (f k : ℕ) (l : Option X) → Holds ge xs f ps → length ps ≡ k → MatchOption l ((f ≡ 0) ⊎ (f < length ps)) (λ y. (0 < f) × (f ≡ length ps) × (y ≡ get_or ps (f - 1) y))
+      → MatchOption l (Short k xs) (λ y. Kth ge k xs y)
+  kth_of xs ps f k None h len none = elim (cases_lt (length xs) k) [ inl few ↦ inr few | inr many ↦ inl (let c = h.count in ⊎_elim (λ (e : f ≡ 0). omega arith) (λ (e : f < length ps). omega arith) none) ]
+  kth_of xs ps f k (Some l) h len some = kth_held xs ps f k l h len (omega (arith, some.1)) (omega (arith, some.0, some.1)) some.2

@@ -1,4 +1,5 @@
-// Entries whose order compares any two. Ties are allowed: two different entries may each reach the other.
+// Entries whose order compares any two. Ties are allowed: two different entries may each reach the other. It is no `Ord` of std:
+// of a ratio that asks four impls with their laws, by cross multiplication, where the keeper needs one test.
 ghost use Rattle.std.specs.Prelude.{◌≡◌, Bool};
 ghost use Rattle.tail.specs.Tail.{Orders, reaches_loss};
 ghost use Rattle.std.proofs.Common.{rules};

@@ -4,10 +4,10 @@ ghost use Rattle.events.specs.Files.{events_of, fault_of};
 ghost use Rattle.events.specs.Left.{events_left, fault_left, Handed};
 ghost use Rattle.events.specs.Steps.{step_at, size_of, records_in};
 
+use super::super::event::Event;
 use super::super::fault::{Fault, FaultReason};
 use super::super::head::head;
 use super::super::record::decode;
-use super::super::step::Step;
 use super::Reader;
 
 // The most bytes of a file.
@@ -29,8 +29,9 @@ impl<'a> Reader<'a> {
         }
     }
 
-    // What stands at the place. A record is passed; the end and a fault leave the reader where it is.
-    pub fn next(&mut self) -> Step
+    // The next record, none at the end, or a fault. A record is passed; the end and a fault leave the reader where it is,
+    // so that it is no `Iterator`: after a fault one would not end.
+    pub fn next(&mut self) -> Result<Option<Event>, Fault>
         ensures step { result ≡ step_at self.old.bytes.now self.old.place self.old.count }
         ensures bytes { self.new.bytes.now ≡ self.old.bytes.now }
         ensures place { self.new.place ≡ self.old.place + size_of result }
@@ -38,26 +39,27 @@ impl<'a> Reader<'a> {
         ensures left { Handed result self.old self.new }
     {
         if self.bytes.len() > MOST_BYTES {
-            return Step::Fault(Fault {
+            return Err(Fault {
                 ordinal: 0,
                 reason: FaultReason::TooLong,
                 offset: 0,
             });
         }
-        if self.place == self.bytes.len() {
-            return Step::End;
+        let rest = &self.bytes[self.place..];
+        if rest.is_empty() {
+            return Ok(None);
         }
-        match head(self.bytes, self.place, self.count == 0) {
-            Err(reason) => Step::Fault(Fault {
+        match head(rest, self.count == 0) {
+            Err(reason) => Err(Fault {
                 ordinal: self.count + 1,
                 reason,
                 offset: self.place as u32,
             }),
             Ok(kind) => {
-                let event = decode(self.bytes, self.place, kind);
+                let event = decode(rest, kind);
                 self.place += kind.length() as usize;
                 self.count += 1;
-                Step::Record(event)
+                Ok(Some(event))
             }
         }
     }

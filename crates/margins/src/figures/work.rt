@@ -1,8 +1,6 @@
 // Working the figures of an account out.
 ghost use Rattle.std.specs.Prelude.{◌≡◌, ◌+◌, ◌*◌, ◌≤◌, length};
 ghost use Rattle.tables.specs.Codes.{first_benchmark, second_benchmark};
-ghost use Rattle.risk.specs.Groups.{Standing};
-ghost use Rattle.risk.specs.Losses.{AtRisk};
 ghost use Rattle.margins.specs.Figures.{gross_of, benchmark_of, part_of, family_from, family_of, figures_of, both_initial, many, Bounded};
 ghost use Rattle.margins.specs.Settled.{LevelSettles, OwnSettles, SecondSettles, FiguresSettle};
 ghost use Rattle.margins.specs.Worked.{Worked};
@@ -15,67 +13,79 @@ use market::market::Market;
 use market::state::FamilyState;
 use models::model::MarginModel;
 use risk::figures::work::risk_figures;
-use risk::gather::gather_standing;
+use risk::gather::gather;
 use risk::grouping::Grouping;
 use risk::money::lost;
+use risk::quotes::Quotes;
 use tables::account::Account;
 use tables::codes::{Benchmark, Family};
 use tables::row::{Levels, NO_TRADE, TradeRow};
 use tables::standing::StandingTrades;
 
 // The gross notional of the trades.
+#[tactic(auto, unfolding(crate::specs::Figures::gross_of))]
 fn gross_notional(trades: &[TradeRow]) -> u64
-    requires { Standing trades.now }
-    ensures value { result ≡ gross_of trades.now }
-    ensures bound { result ≤ 1000000 * length trades.now }
+    requires { length trades.now ≤ 64 }
+    ensures { result ≡ gross_of trades.now }
 {
-    let mut sum = 0;
-    for trade in trades {
-        sum += trade.notional as u64;
-    }
-    sum
+    trades.iter().map(|trade| trade.notional as u64).sum()
 }
 
-// What the trades of one benchmark come to.
-fn benchmark_figures<M: MarginModel>(
-    model: &M,
-    market: &Market,
-    trades: StandingTrades,
-) -> BenchmarkFigures
-    ensures value { result ≡ benchmark_of (M.meaning model.now) market.now.state trades.entry.trades.now }
-    ensures bound { Bounded result (length trades.entry.trades.now) }
-{
-    let rows = trades.rows();
-    let mark = mark_to_market(model, market.state().day, rows);
-    BenchmarkFigures {
-        trades: rows.len() as u64,
-        gross: gross_notional(rows),
-        risk: risk_figures(model, market, trades),
-        mark,
-        loss: lost(mark),
-        credit: margin_credit(mark),
-    }
+// A model, and the market that it is asked in.
+#[derive(Drop)]
+struct Valuation<'a, M> {
+    model: &'a M,
+    market: &'a Market,
 }
 
-// What the trades of an account in one benchmark come to. They are gathered once.
-fn part_figures<M: MarginModel>(
-    model: &M,
-    market: &Market,
-    benchmark: Benchmark,
-    trades: StandingTrades,
-) -> BenchmarkFigures
-    ensures value { result ≡ part_of (M.meaning model.now) market.now.state benchmark trades.entry.trades.now }
-    ensures bound { Bounded result (many market.now.state benchmark trades.entry.trades.now) }
-{
-    let mut room = [NO_TRADE; 64];
-    let count = gather_standing(
-        Grouping::ByBenchmark,
-        market.state().day,
-        benchmark.code(),
-        trades,
-        &mut room,
-    );
-    benchmark_figures(model, market, StandingTrades::new(&room[0..count]))
+impl<'a, M: MarginModel> Valuation<'a, M> {
+    // What the trades of one benchmark come to.
+    #[tactic(auto, unfolding(crate::specs::Figures::benchmark_of))]
+    fn benchmark(&self, trades: StandingTrades) -> BenchmarkFigures
+        ensures value { result ≡ benchmark_of (M.meaning self.now.model.now) self.now.market.now.state trades.entry.trades.now }
+        ensures bound { Bounded result (length trades.entry.trades.now) }
+    {
+        let quotes = Quotes {
+            model: self.model,
+            day: self.market.state().day,
+        };
+        let rows = trades.rows();
+        let mark = mark_to_market(&quotes, trades);
+        BenchmarkFigures {
+            trades: rows.len() as u64,
+            gross: gross_notional(rows),
+            risk: risk_figures(self.model, self.market, trades),
+            mark,
+            loss: lost(mark),
+            credit: margin_credit(mark),
+        }
+    }
+
+    // What the trades of an account in one benchmark come to. They are gathered once.
+    #[tactic(auto, unfolding(crate::specs::Figures::part_of))]
+    fn part(&self, benchmark: Benchmark, trades: StandingTrades) -> BenchmarkFigures
+        ensures value { result ≡ part_of (M.meaning self.now.model.now) self.now.market.now.state benchmark trades.entry.trades.now }
+        ensures bound { Bounded result (many self.now.market.now.state benchmark trades.entry.trades.now) }
+    {
+        let mut room = [NO_TRADE; 64];
+        let day = self.market.state().day;
+        let key = u32::from(benchmark);
+        let group = gather(Grouping::ByBenchmark, day, key, trades, &mut room);
+        self.benchmark(group)
+    }
+
+    // What a family of an account comes to.
+    #[tactic(auto, unfolding(crate::specs::Figures::family_of))]
+    fn family(&self, family: Family, levels: Levels, trades: StandingTrades) -> FamilyFigures
+        ensures levels { (result.levels.initial ≤ 2) × (result.levels.gross ≤ 2) }
+        ensures value { result ≡ family_of (M.meaning self.now.model.now) self.now.market.now.state family levels trades.entry.trades.now }
+        ensures obligation { result.obligation ≤ 34400000000000 * (many self.now.market.now.state (first_benchmark family) trades.entry.trades.now + many self.now.market.now.state (second_benchmark family) trades.entry.trades.now) }
+        ensures credit { result.credit ≤ 20000000000000 * (many self.now.market.now.state (first_benchmark family) trades.entry.trades.now + many self.now.market.now.state (second_benchmark family) trades.entry.trades.now) }
+    {
+        let first = self.part(family.first(), trades);
+        let second = self.part(family.second(), trades);
+        join_benchmarks(self.market.family(family), levels, first, second)
+    }
 }
 
 // What two benchmarks of a family come to.
@@ -112,25 +122,8 @@ fn join_benchmarks(
     }
 }
 
-// What a family of an account comes to.
-fn family_figures<M: MarginModel>(
-    model: &M,
-    market: &Market,
-    family: Family,
-    levels: Levels,
-    trades: StandingTrades,
-) -> FamilyFigures
-    ensures levels { (result.levels.initial ≤ 2) × (result.levels.gross ≤ 2) }
-    ensures value { result ≡ family_of (M.meaning model.now) market.now.state family levels trades.entry.trades.now }
-    ensures obligation { result.obligation ≤ 34400000000000 * (many market.now.state (first_benchmark family) trades.entry.trades.now + many market.now.state (second_benchmark family) trades.entry.trades.now) }
-    ensures credit { result.credit ≤ 20000000000000 * (many market.now.state (first_benchmark family) trades.entry.trades.now + many market.now.state (second_benchmark family) trades.entry.trades.now) }
-{
-    let first = part_figures(model, market, family.first(), trades);
-    let second = part_figures(model, market, family.second(), trades);
-    join_benchmarks(market.family(family), levels, first, second)
-}
-
-// The figures of an account, without the cover that a house carries.
+// The figures of an account, without the cover that a house carries. Model and market stay two parameters: they are a value inside.
+#[tactic(auto, unfolding(crate::specs::Figures::figures_of))]
 pub fn figures<M: MarginModel>(
     model: &M,
     market: &Market,
@@ -144,8 +137,9 @@ pub fn figures<M: MarginModel>(
     ensures shortfall { result.shortfall ≤ 3000000000000000 }
 {
     let row = account.row();
-    let overnight = family_figures(model, market, Family::Overnight, row.overnight, trades);
-    let forward = family_figures(model, market, Family::Forward, row.forward, trades);
+    let valuation = Valuation { model, market };
+    let overnight = valuation.family(Family::Overnight, row.overnight, trades);
+    let forward = valuation.family(Family::Forward, row.forward, trades);
     let securities = securities_value(&row.lots, &market.state().securities);
     let collateral = row.cash + securities;
     let obligation = overnight.obligation + forward.obligation;
@@ -162,18 +156,14 @@ pub fn figures<M: MarginModel>(
 }
 
 // Levels, flags and figures that are settled again at the same values stay.
-pub fn settling_laws() -> u8
+pub fn settling_laws()
     ensures level { LevelSettles }
     ensures own { OwnSettles }
     ensures second { SecondSettles }
     ensures figures { FiguresSettle }
-{
-    0
-}
+{}
 
 // The worked figures follow from the rules.
-pub fn worked_figures() -> u8
+pub fn worked_figures()
     ensures { Worked }
-{
-    0
-}
+{}

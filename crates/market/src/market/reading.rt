@@ -2,7 +2,6 @@
 ghost use Rattle.std.specs.Prelude.{◌≡◌, true, false, MatchOption};
 ghost use Rattle.market.specs.States.{market_keeps, family_state};
 
-use super::super::asking::family_state;
 use super::super::keeping::market_keeps;
 use super::super::state::{FamilyState, MarketState};
 use super::Market;
@@ -21,6 +20,7 @@ impl Market {
     pub fn from_state(state: MarketState) -> Option<Market>
         ensures { MatchOption result (market_keeps state ≡ false) (λ m. m.state ≡ state) }
     {
+        // `then` would need a closure with a clause on the state, and so is no plainer.
         if market_keeps(&state) {
             Some(Market { state })
         } else {
@@ -38,6 +38,6 @@ impl Market {
     pub fn family(&self, family: Family) -> FamilyState
         ensures { result ≡ family_state self.now.state family }
     {
-        family_state(&self.state, family)
+        self.state.family(family)
     }
 }

@@ -15,12 +15,8 @@ impl Market {
         ensures answer { result ≡ first_no (market_questions sets self.old.state call) }
         ensures state { self.new.state ≡ decided (first_no (market_questions sets self.old.state call)) (market_changed call self.old.state) (λ e. self.old.state) }
     {
-        match ask_market(&self.state, sets, call) {
-            Ok(()) => {
-                self.state.change(call);
-                Ok(())
-            }
-            Err(refusal) => Err(refusal),
-        }
+        ask_market(&self.state, sets, call)?;
+        self.state.change(call);
+        Ok(())
     }
 }

@@ -33,6 +33,7 @@ impl Session {
     }
 
     // Begins anew with so many accounts in a month, and keeps the model. Gives the number of the opening; a refused one changes nothing.
+    // It stays a number: a rule of the project has the opening answer one, 0 where it is accepted.
     pub fn open(&mut self, heap: Global, accounts: u32, month: u16) -> Result<u8, AllocError>
         ensures { MatchResult result (λ number. (number ≡ result_number (opening_result accounts month)) × (held self.new ≡ opened accounts month (held self.old))) (λ _. held self.new ≡ held self.old) }
     {
@@ -69,13 +70,8 @@ impl Session {
         ensures given { MatchResult result (λ _. Gives text.now (means (held self.new).model)) (λ e. UnlessMemory e (λ a. Gives text.now a)) }
         ensures after { MatchResult result (λ _. held self.new ≡ with_model (held self.old) (held self.new).model) (λ _. held self.new ≡ held self.old) }
     {
-        match load(heap, text) {
-            Ok(model) => {
-                self.model = model;
-                Ok(())
-            }
-            Err(refusal) => Err(refusal),
-        }
+        self.model = load(heap, text)?;
+        Ok(())
     }
 
     // The records as they stand, the house first.

@@ -19,6 +19,7 @@ impl Account {
     pub fn from_row(row: AccountRow) -> Option<Account>
         ensures { MatchOption result (holdings_keep row ≡ false) (λ a. a.row ≡ row) }
     {
+        // `then` would need a closure with a clause on the row, and so is no plainer.
         if holdings_keep(&row) {
             Some(Account { row })
         } else {

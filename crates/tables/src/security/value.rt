@@ -12,6 +12,7 @@ impl Security {
     pub fn from_row(row: SecurityRow) -> Option<Security>
         ensures { MatchOption result (security_keeps row ≡ false) (λ s. s.row ≡ row) }
     {
+        // `then` would need a closure with a clause on the row, and so is no plainer.
         if security_keeps(&row) {
             Some(Security { row })
         } else {

@@ -1,29 +1,15 @@
-use Rattle.std.proofs.Common.{◌≡◌, ℕ, ◌<◌, true, eqb, List, get_or, drop, sym, ap, ◌∙◌, ap₂, arith}
+use Rattle.std.proofs.Common.{ℕ, eqb, List, get_or, drop, sym, ap, ◌∙◌, ap₂, arith}
 use Rattle.tables.specs.declared.row.AccountRow.{AccountRow}
 use Rattle.tables.specs.declared.row.TradeRow.{TradeRow}
-use Rattle.tables.specs.Books.{Book, book, books_of, no_row, places_at}
+use Rattle.tables.specs.Books.{Book, books_of, no_row}
 use Rattle.tables.specs.Limits.{tables_keep}
-use Rattle.tables.proofs.Books.{kept, most_of, put_keeps}
-use Rattle.tables.proofs.Facts.{Booked, booked}
+use Rattle.tables.proofs.Books.{kept, put_keeps}
 use Rattle.refusals.proofs.Facts.{refusal_some}
 use Rattle.rules.specs.Stands.{ordered, shortfalls, standing, finish, rows_of}
 use Rattle.rules.specs.Outcomes.{answer_of}
 use Rattle.rules.specs.declared.call.Answer.{Answer}
 use Rattle.house.proofs.Acting.{verdict_is, refused_is, granted_is, after_keeps}
 use Rattle.house.proofs.account.act.Goals as goal
-
-own_book : (n i : ℕ) (rs : List AccountRow) (ts : List TradeRow) → i < n → tables_keep n rs ts ≡ true → Booked (most_of i) (book (get_or rs i no_row) (places_at ts i))
-own_book n i rs ts l h = booked (most_of i) (book (get_or rs i no_row) (places_at ts i)) ((kept n rs ts h).each i l)
-
-pub read_book-held-requires : goal.read_book-held-requires
-read_book-held-requires g c =
-    let n = c.args.house.now.accounts in
-    let rs = c.args.records.now in
-    let ts = c.args.trades.now in
-    let i = c.args.account in
-    let s = kept n rs ts c.requires.tables in
-    let b = own_book n i rs ts c.requires.there c.requires.tables in
-    (omega (arith, s.rows, c.requires.there), (omega (arith, s.places, c.requires.there), (b.holdings, b.places)))
 
 pub finish_settling-requires : goal.finish_settling-requires
 finish_settling-requires g c =

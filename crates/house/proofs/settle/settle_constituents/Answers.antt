@@ -1,8 +1,8 @@
-use Rattle.std.proofs.Common.{◌≡◌, ℕ, suc, ◌+◌, ◌-◌, ◌<◌, ◌≤◌, ◌∷◌, ◌++◌, map, length, get_or, take, drop, set, sym, ap, ◌∙◌, append-nil, arith, length-drop, take_all}
+use Rattle.std.proofs.Common.{◌≡◌, ℕ, suc, ◌+◌, ◌-◌, ◌<◌, ◌≤◌, ◌∷◌, ◌++◌, map, length, get_or, take, drop, set, sym, ap, ap₂, ◌∙◌, append-nil, arith, length-drop, take_all}
 use Rattle.std.proofs.lemmas.List.{drop_all}
-use Rattle.tables.specs.Books.{Book, book, books_of, no_row, no_book, places_at}
-use Rattle.tables.proofs.Books.{kept, most_of, length_books, length_places_at, books_whole, put_same}
-use Rattle.tables.proofs.Facts.{booked}
+use Rattle.tables.specs.declared.row.AccountRow.{AccountRow}
+use Rattle.tables.specs.Books.{Book, books_of, no_row, no_book, places_at}
+use Rattle.tables.proofs.Books.{kept, length_books, length_places_at, books_whole, put_same}
 use Rattle.rules.specs.Settling.{settled_row, settled}
 use Rattle.house.proofs.Passes.{keeps_more, constituents_more, settled_fits}
 use Rattle.house.proofs.settle.settle_constituents.Goals as goal
@@ -14,16 +14,11 @@ loop-i-init g c =
     let n = c.args.house.now.accounts in
     (c.requires, omega arith, sym (books_whole (books_of rs ts) (omega (arith, length_books rs ts, (kept n rs ts c.requires).rows, c.args.house.now.some))))
 
-pub settle_account-requires : goal.settle_account-requires
-settle_account-requires g c =
+pub read_book-held-requires-clause-there : goal.read_book-held-requires-clause-there
+read_book-held-requires-clause-there g c =
     let n = c.args.house.now.accounts in
-    let rs = c.loop-i.records in
     let ts = c.args.trades.now in
-    let i = c.loop-i.i in
-    let s = kept n rs ts c.loop-i.invariant.0 in
-    let lt : i < n = omega (arith, s.rows, (kept n c.args.records.now ts c.requires).rows, c.loop-i-test.true) in
-    let b = booked (most_of i) (book (get_or rs i no_row) (places_at ts i)) (s.each i lt) in
-    record { long = omega (arith, s.places); row = b.holdings; places = b.places }
+    omega (arith, (kept n c.loop-i.records ts c.loop-i.invariant.0).rows, (kept n c.args.records.now ts c.requires).rows, c.loop-i-test.true)
 
 pub loop-i-preserved : goal.loop-i-preserved
 loop-i-preserved g c =
@@ -44,13 +39,16 @@ loop-i-preserved g c =
     let r = get_or rs i no_row in
     let ps = places_at ts i in
     let f : Book → Book = settled m k 0 in
-    let q = c.settle_account.result in
-    let e = c.settle_account.ensures in
-    let value : q ≡ settled_row m k 0 r (take r.trades ps) = e.value ∙ ap (λ (x : ℕ). settled_row m k x r (take r.trades ps)) c.none.ensures in
+    let h' = c.settled.result in
+    let q = c.row.result in
+    let er₀ : q ≡ h'.row = c.row.ensures.row in
+    let w = c.settled.ensures.within in
+    let value : q ≡ settled_row m k 0 r (take r.trades ps) =
+    er₀ ∙ ap (λ (b : Book). b.row) c.settled.ensures.value ∙ ap₂ (λ (x : ℕ) (b : Book). (settled m k x b).row) c.none.ensures c.read_book-held.ensures in
     let er = ap (set rs i) value in
     let et = sym (put_same ts i) in
     let long = length_places_at ts i (omega (arith, s.places, lt)) in
-    let fits = settled_fits m k i r ps q (omega (arith, c.loop-i.invariant.1)) (s.each i lt) value e.keeps (omega (arith, e.obligation, c.none.ensures)) e.available (omega (arith, e.shortfall, c.none.ensures)) in
+    let fits = settled_fits m k i r ps q (omega (arith, c.loop-i.invariant.1)) (s.each i lt) value c.row.ensures.keeps (omega (arith, ap (λ (x : AccountRow). x.obligation) er₀, w.obligation, c.none.ensures)) (omega (arith, ap (λ (x : AccountRow). x.available) er₀, w.available)) (omega (arith, ap (λ (x : AccountRow). x.shortfall) er₀, w.shortfall, c.none.ensures)) in
     let past : length (drop 1 bs) ≡ n - 1 = omega (arith, length-drop 1 bs, length_books c.args.records.now ts, first.rows) in (
       keeps_more n f rs (set rs i q) ts ts i h lt long er et fits,
       omega arith,

@@ -2,12 +2,6 @@ use Rattle.std.proofs.Common.{arith}
 use Rattle.knots.proofs.Casts.{scaled_most, sum_is}
 use Rattle.knots.proofs.interpolation.interpolate.Goals as goal
 
-pub scaled-requires : goal.scaled-requires
-scaled-requires c = (
-  omega arith,
-  scaled_most c.args.low c.args.high c.args.part c.args.whole c.requires.sizes.0 c.requires.sizes.1 c.requires.parts.0 c.requires.parts.1.0 c.requires.parts.1.1,
-)
-
 pub overflow_add-result : goal.overflow_add-result
 overflow_add-result c =
     (sum_is c.args.low c.args.high c.args.part c.args.whole c.requires.sizes.0 c.requires.sizes.1 c.requires.parts.0 c.requires.parts.1.0 c.requires.parts.1.1

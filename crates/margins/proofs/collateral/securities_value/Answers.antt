@@ -1,38 +1,33 @@
-use Rattle.std.proofs.Common.{◌≡◌, ◌≤◌, true, get_or, refl, ap, ◌∙◌, arith}
-use Rattle.std.proofs.ByRecursion.{All-get_or}
-use Rattle.tables.specs.declared.row.SecurityRow.{SecurityRow}
+use Rattle.std.proofs.Common.{ℕ, length, get_or, sym, ap, ap₂, ◌∙◌, arith}
+use Rattle.std.proofs.lemmas.List.{length_push}
+use Rattle.std.proofs.lemmas.Slice.Zip.{zip_turn, zip_end}
 use Rattle.tables.specs.Numbers.{sum_below}
 use Rattle.tables.specs.Collateral.{lots_value}
-use Rattle.tables.specs.Limits.{no_security, security_keeps}
+use Rattle.tables.specs.Limits.{no_security}
 use Rattle.tables.proofs.Numbers.{sum_next}
 use Rattle.margins.specs.Figures.{securities_of}
 use Rattle.margins.proofs.collateral.securities_value.Goals as goal
 
-pub loop-i-init : goal.loop-i-init
-unfolding sum_below
-loop-i-init c = (refl, omega arith)
-
-pub row_value-sum-requires : goal.row_value-sum-requires
-row_value-sum-requires c =
-    All-get_or (λ (s : SecurityRow). security_keeps s ≡ true) c.args.securities.now c.loop-i.i no_security (omega (arith, c.requires.securities.0)) c.requires.securities.1
-
-pub loop-i-preserved : goal.loop-i-preserved
-loop-i-preserved c =
-    let few = All-get_or (λ n. n ≤ 1000000) c.args.lots.now c.loop-i.i 0 (omega (arith, c.requires.lots.0)) c.requires.lots.1 in (
-      sum_next (λ i. lots_value (get_or c.args.lots.now i 0) (get_or c.args.securities.now i no_security)) c.loop-i.sum c.loop-i.i c.row_value-sum.result c.loop-i.invariant.0 c.row_value-sum.ensures.value,
-      omega (arith, c.row_value-sum.ensures.bound, c.loop-i.invariant.1),
+pub loop-count-preserved : goal.loop-count-preserved
+loop-count-preserved c =
+    let lots = c.args.lots.now in
+    let securities = c.args.securities.now in
+    let n = length c.loop-count.yielded in
+    let turn = zip_turn lots securities c.loop-count.yielded c.into_iter-count-iterator.result c.loop-count.count-iterator c.next.new.self c.next.result (cc) (cc) c.loop-count.yielded_by (c.in-Some.count, c.in-Some.row) c.in-Some.is c.next.ensures.steps in
+    let value : ℕ → ℕ = λ i. lots_value (get_or lots i 0) (get_or securities i no_security) in
+    let one = c.row_value-sum.ensures.value ∙ ap₂ lots_value (turn.2 0) (turn.3 no_security) in
+    let few = c.requires.lots n 0 turn.0 in
+    let more = length_push c.loop-count.yielded (c.in-Some.count, c.in-Some.row) in
+    let count = turn.2 0 in (
+      sum_next value c.loop-count.sum n c.row_value-sum.result c.loop-count.invariant.0 one ∙ ap (sum_below value) (sym more),
+      omega (arith, c.row_value-sum.ensures.bound, c.loop-count.invariant.1),
     )
 
-pub overflow_add-sum : goal.overflow_add-sum
-overflow_add-sum c =
-    let few = All-get_or (λ n. n ≤ 1000000) c.args.lots.now c.loop-i.i 0 (omega (arith, c.requires.lots.0)) c.requires.lots.1 in
-    record { fits = omega (arith, c.row_value-sum.ensures.bound, c.loop-i.invariant.1) }
-
-pub returns : goal.returns
+pub returns-clause-value : goal.returns-clause-value
 unfolding securities_of
-returns c =
-    let at : c.loop-i.i ≡ 32 = omega arith in
-    record {
-      value = c.loop-i.invariant.0 ∙ ap (sum_below (λ i. lots_value (get_or c.args.lots.now i 0) (get_or c.args.securities.now i no_security))) at;
-      bound = omega (arith, c.loop-i.invariant.1);
-    }
+returns-clause-value c =
+    let lots = c.args.lots.now in
+    let securities = c.args.securities.now in
+    let ended = zip_end lots securities c.loop-count.yielded c.into_iter-count-iterator.result c.loop-count.count-iterator c.next.new.self c.next.result (cc) (cc) c.loop-count.yielded_by c.in-None.is c.next.ensures.steps in
+    let value : ℕ → ℕ = λ i. lots_value (get_or lots i 0) (get_or securities i no_security) in
+    c.loop-count.invariant.0 ∙ ap (sum_below value) (omega (arith, ended))

@@ -5,4 +5,4 @@ use Rattle.margins.proofs.marks.mark_to_market.Given as goal
 
 abbrev pub invariant-loop-trade : goal.invariant-loop-trade
 invariant-loop-trade g l =
-    (l.trade-index ≤ length l.trades) × (l.sum ≡ signed_sum (mark_of (g.M.MarginModel.meaning l.model) l.day) (take l.trade-index l.trades)) × (nat_abs l.sum ≤ l.trade-index * 20000000000000)
+    (l.trade-index ≤ length l.trade-items) × (l.sum ≡ signed_sum (mark_of (g.M.MarginModel.meaning l.quotes.model.now) l.quotes.day) (take l.trade-index l.trade-items)) × (nat_abs l.sum ≤ l.trade-index * 20000000000000)

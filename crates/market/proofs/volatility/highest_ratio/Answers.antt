@@ -1,16 +1,13 @@
-use Rattle.std.proofs.Common.{[], ◌∷◌, refl, arith}
-use Rattle.market.proofs.Ratios.{found, five}
+use Rattle.std.proofs.Common.{◌≡◌, ◌∙◌, arith, rules}
+use Rattle.market.specs.Volatility.{exceeding}
+use Rattle.market.proofs.Ratios.{Is, five, counts, found}
 use Rattle.market.proofs.volatility.highest_ratio.Goals as goal
 
 pub returns : goal.returns
 returns c =
     let ts = c.args.thresholds.now.triggers in
     let rs = c.args.returns in
-    found ts rs (c.new.result ∷ c.new-2.result ∷ c.new-3.result ∷ c.new-4.result ∷ c.new-5.result ∷ [])
-    (five ts rs c.new.result c.new-2.result c.new-3.result c.new-4.result c.new-5.result
-    (c.new.ensures.num, c.new.ensures.den)
-    (c.new-2.ensures.num, c.new-2.ensures.den)
-    (c.new-3.ensures.num, c.new-3.ensures.den)
-    (c.new-4.ensures.num, c.new-4.ensures.den)
-    (c.new-5.ensures.num, c.new-5.ensures.den))
-    c.kth_highest.result refl (omega (arith, c.count_exceeding.ensures)) c.kth_highest.ensures.kth
+    let xs = c.from_fn-ratios.result in
+    let each = five (Is ts rs) xs (λ z. search rules) (λ z. search rules) (λ z. search rules) (λ z. search rules) (λ z. search rules) in
+    let count : c.count_exceeding.result ≡ exceeding ts rs = c.count_exceeding.ensures ∙ counts ts rs (search rules) (search rules) in
+    found ts rs xs each c.kth_highest.result c.from_fn-ratios.ensures.items.long (omega (arith, count)) c.kth_highest.ensures.kth

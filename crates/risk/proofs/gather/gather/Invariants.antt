@@ -4,4 +4,4 @@ use Rattle.risk.proofs.gather.gather.Given as goal
 
 abbrev pub invariant-loop-trade : goal.invariant-loop-trade
 invariant-loop-trade l =
-    (l.count ≤ l.trade-index) × (l.trade-index ≤ length l.trades) × (take l.count l.room ≡ filter (in_group l.grouping l.day l.key) (take l.trade-index l.trades))
+    (l.count ≤ l.trade-index) × (l.trade-index ≤ length l.trade-items) × (take l.count l.room ≡ filter (in_group l.grouping l.day l.key) (take l.trade-index l.trade-items))

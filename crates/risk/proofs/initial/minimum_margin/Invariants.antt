@@ -5,4 +5,4 @@ use Rattle.risk.proofs.initial.minimum_margin.Given as goal
 
 abbrev pub invariant-loop-trade : goal.invariant-loop-trade
 invariant-loop-trade l =
-    (l.trade-index ≤ length l.trades) × (l.sum ≡ signed_sum (weight_of l.day) (take l.trade-index l.trades)) × (nat_abs l.sum ≤ l.trade-index * 2000000000000)
+    (l.trade-index ≤ length l.trade-items) × (l.sum ≡ signed_sum (weight_of l.day) (take l.trade-index l.trade-items)) × (nat_abs l.sum ≤ l.trade-index * 2000000000000)

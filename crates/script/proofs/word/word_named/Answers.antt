@@ -1,19 +1,14 @@
-use Rattle.std.proofs.Common.{rules}
-use Rattle.script.specs.Words.{word_named}
+use Rattle.std.proofs.Common.{◌≡◌, ◌∙◌, rules}
+use Rattle.std.proofs.lemmas.Iterator.{YieldsList-from_slice}
+use Rattle.std.proofs.lemmas.Iterator.Search.{find_from_yields_List}
+use Rattle.std.specs.Option.{option_map}
+use Rattle.std.specs.Str.{bytes_eq}
+use Rattle.script.specs.Words.{word_text}
+use Rattle.script.proofs.Tables.{all, named}
 use Rattle.script.proofs.word.word_named.Goals as goal
 
-pub returns-in-Some : goal.returns-in-Some
-unfolding word_named
-returns-in-Some c = search rules
-
-pub returns-in-Some-collateral_word : goal.returns-in-Some-collateral_word
-unfolding word_named
-returns-in-Some-collateral_word c = search rules
-
-pub returns-in-Some-market_word : goal.returns-in-Some-market_word
-unfolding word_named
-returns-in-Some-market_word c = search rules
-
 pub returns : goal.returns
-unfolding word_named
-returns c = search rules
+returns c =
+    let e = find_from_yields_List {v = λ x. x.now} (λ w. bytes_eq c.args.text.now (word_text w)) c.find.new.self _ c.find.result c.find.ensures.ran (YieldsList-from_slice all c.iter.ensures.rest) (λ x b q e. search rules) in
+    let f : c.copied.result ≡ option_map (λ x. x.now) c.find.result = search rules in
+    f ∙ e ∙ named c.args.text.now

@@ -1,36 +1,29 @@
-use Rattle.std.proofs.Common.{◌≡◌, ◌+◌, ◌≤◌, length, refl, arith, rules}
+use Rattle.std.proofs.Common.{◌≡◌, ◌+◌, Ok, Err, Some, sym, ap, ◌∙◌, arith, rules}
 use Rattle.events.specs.Kinds.{length_of, event_kind}
-use Rattle.events.specs.Faults.{too_long}
 use Rattle.events.specs.Steps.{step_at}
-use Rattle.events.specs.declared.step.Step.TheVariants.{End, Fault, Record}
-use Rattle.events.proofs.Lefts.{left_end, left_fault, left_record}
+use Rattle.events.proofs.Lefts.{step_headed, decoded, left_fault, left_record}
 use Rattle.events.proofs.reader.Reader.next.Goals as goal
-
-pub returns-then-self-gt-MOST_BYTES : goal.returns-then-self-gt-MOST_BYTES
-returns-then-self-gt-MOST_BYTES c =
-    let r = c.args.self.now in
-    let le : r.count ≤ length r.bytes.now = omega arith in
-    let s : Fault too_long ≡ step_at r.bytes.now r.place r.count = search rules in
-    record { step = s; bytes = refl; place = omega arith; count = omega arith; left = left_fault r.bytes.now r.place r.count _ le s }
-
-pub returns-then-self : goal.returns-then-self
-returns-then-self c =
-    let r = c.args.self.now in
-    let le : r.count ≤ length r.bytes.now = omega arith in
-    let s : End ≡ step_at r.bytes.now r.place r.count = search rules in
-    record { step = s; bytes = refl; place = omega arith; count = omega arith; left = left_end r.bytes.now r.place r.count le s }
 
 pub returns-in-Err : goal.returns-in-Err
 returns-in-Err c =
     let r = c.args.self.now in
-    let le : r.count ≤ length r.bytes.now = omega arith in
-    let s : Fault (record { ordinal = r.count + 1; reason = c.in-Err.reason; offset = r.place }) ≡ step_at r.bytes.now r.place r.count = search rules in
-    record { step = s; bytes = refl; place = omega arith; count = omega arith; left = left_fault r.bytes.now r.place r.count _ le s }
+    let s : Err (record { ordinal = r.count + 1; reason = c.in-Err.reason; offset = r.place }) ≡ step_at r.bytes.now r.place r.count =
+    step_headed r.bytes.now r.place r.count c.is_empty.result (Err c.in-Err.reason) (omega arith) (omega arith) c.if-is_empty.false c.is_empty.ensures c.in-Err.ensures in
+    record { step = s; bytes = search rules; place = search rules; count = search rules; left = left_fault r.bytes.now r.place r.count _ (omega arith) s }
 
 pub returns-in-Ok : goal.returns-in-Ok
 returns-in-Ok c =
     let r = c.args.self.now in
-    let le : r.count ≤ length r.bytes.now = omega arith in
-    let s : Record c.decode-event.result ≡ step_at r.bytes.now r.place r.count = search rules in
-    let size : c.length.result ≡ length_of (event_kind c.decode-event.result) = search rules in
-    record { step = s; bytes = refl; place = search rules; count = omega arith; left = left_record r.bytes.now r.place r.count _ _ c.decode-event.result le s (search rules) refl }
+    let e = c.decode-event.result in
+    let read = decoded r.bytes.now r.place c.in-Ok.kind e c.decode-event.ensures.event in
+    let s : Ok (Some e) ≡ step_at r.bytes.now r.place r.count =
+    ap (λ x. Ok (Some x)) read
+    ∙ step_headed r.bytes.now r.place r.count c.is_empty.result (Ok c.in-Ok.kind) (omega arith) (omega arith) c.if-is_empty.false c.is_empty.ensures c.in-Ok.ensures in
+    let size : c.length.result ≡ length_of (event_kind e) = c.length.ensures ∙ ap length_of (sym c.decode-event.ensures.kind) in
+    record {
+      step = s;
+      bytes = search rules;
+      place = search rules;
+      count = search rules;
+      left = left_record r.bytes.now r.place r.count _ _ e (omega arith) s (ap (λ z. r.place + z) size) (search rules);
+    }

@@ -1,5 +1,5 @@
-use Rattle.margins.proofs.Settles.{level_settles, own_settles, second_settles, figures_settle}
+use Rattle.margins.proofs.Settles.{figures_settle}
 use Rattle.margins.proofs.figures.work.settling_laws.Goals as goal
 
-pub returns : goal.returns
-returns c = record { level = level_settles; own = own_settles; second = second_settles; figures = figures_settle }
+pub returns-clause-figures : goal.returns-clause-figures
+returns-clause-figures c = figures_settle

@@ -1,8 +1,0 @@
-use Rattle.std.proofs.Common.{◌≡◌}
-use Rattle.risk.specs.Groups.{group_trades}
-use Rattle.tables.specs.Numbers.{sum_below}
-use Rattle.risk.specs.Losses.{var_of}
-use Rattle.risk.proofs.initial.sum_group_risks.Given as goal
-
-abbrev pub invariant-loop-key : goal.invariant-loop-key
-invariant-loop-key g l = l.sum ≡ sum_below (λ k. var_of (g.M.MarginModel.meaning l.model) l.day (group_trades l.grouping l.day k l.trades)) l.key

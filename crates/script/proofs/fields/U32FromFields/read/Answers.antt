@@ -1,0 +1,6 @@
+use Rattle.std.proofs.Common.{w32}
+use Rattle.script.proofs.Chains.{number_read}
+use Rattle.script.proofs.fields.U32FromFields.read.Goals as goal
+
+pub returns : goal.returns
+returns c = number_read w32 _ _ _ _ _ c.word.ensures.value c.word.ensures.after c.number_field.ensures.missing c.number_field.ensures.number
