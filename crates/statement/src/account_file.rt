@@ -1,4 +1,7 @@
 // An account's file: one entry to a line, a word and its numbers; `#` begins a comment.
+ghost use Rattle.std.specs.Prelude.{◌≡◌, false, []};
+ghost use Rattle.rules.specs.Opening.{opened_market, empty_row};
+
 use anyhow::anyhow;
 use market::state::{Averages, MarketState};
 use opening::opening::{empty_row, unopened};
@@ -17,7 +20,12 @@ pub struct Input {
 
 impl Input {
     // A market as it opens in month 0, and an account with nothing in it.
-    pub fn empty(heap: Global) -> Input {
+    pub fn empty(heap: Global) -> Input
+        ensures state { result.state ≡ opened_market 0 }
+        ensures row { result.row ≡ empty_row }
+        ensures free { result.restricted ≡ false }
+        ensures trades { result.trades.items ≡ [] }
+    {
         Input {
             state: *unopened().market.state(),
             row: empty_row(),

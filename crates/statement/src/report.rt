@@ -1,4 +1,7 @@
 // The statement of one account on one model.
+ghost use Rattle.std.specs.Prelude.{◌≡◌, IfOk};
+ghost use Rattle.margins.specs.Figures.{figures_of};
+
 use super::account_file::Input;
 use anyhow::anyhow;
 use margins::figures::Figures;
@@ -47,7 +50,9 @@ pub fn figures_of<'a, M: MarginModel>(
     model: &M,
     input: &Input,
     trades: &'a [TradeRow],
-) -> anyhow::Result<Figures> {
+) -> anyhow::Result<Figures>
+    ensures { IfOk result (λ f. f ≡ figures_of (M.meaning model.now) input.now.state input.now.row trades.now) }
+{
     let Some(market) = Market::from_state(input.state) else {
         return Err(anyhow!("a number of the market is out of range"));
     };
