@@ -104,8 +104,14 @@ class ModelText:
         return numbers
 
 
-def read_single(text, may_follow):
-    """A table or knot model, with the words that may stand behind it."""
+def numbers_of(make, sets, scenarios):
+    """How many numbers a model of these counts has."""
+    points = {"table": 121, "knot": 12}[make]
+    return sets * 4 * points * (2 + scenarios)
+
+
+def read_single(text):
+    """A table or knot model, as far as its text goes."""
     word = text.take()
     if word not in (b"table", b"knot"):
         raise Malformed("not a model file")
@@ -113,7 +119,9 @@ def read_single(text, may_follow):
     scenarios = text.take_number()
     check_counts(sets, scenarios)
     numbers = text.take_numbers()
-    if text.next() is not None and text.next() not in may_follow:
+    if len(numbers) > numbers_of(word.decode(), sets, scenarios):
+        raise Refused(32)
+    if text.next() not in (None, b"table", b"knot"):
         raise Malformed("not a model file")
     return MAKES[word.decode()](sets, scenarios, numbers)
 
@@ -121,12 +129,15 @@ def read_single(text, may_follow):
 def read_model(data):
     """The model of a file's bytes; Refused or Malformed if there is none."""
     text = ModelText(data)
-    if text.next() != b"joined":
-        return read_single(text, ())
-    text.take()
-    first = read_single(text, (b"table", b"knot"))
-    second = read_single(text, ())
-    return JoinedModel(first, second)
+    if text.next() == b"joined":
+        text.take()
+        first = read_single(text)
+        model = JoinedModel(first, read_single(text))
+    else:
+        model = read_single(text)
+    if text.next() is not None:
+        raise Malformed("not a model file")
+    return model
 
 
 # --- the run ---

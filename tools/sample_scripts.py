@@ -150,6 +150,8 @@ def models():
     yield "r32_first_few.model", "joined knot 1 1 5\n"
     yield "r32_first_many.model", joined_text(good + "1\n", good)
     yield "r32_second.model", joined_text(good, "knot 1 1 1 1 1\n")
+    yield "r32_many_before_word.model", good + "1 end\n"
+    yield "r32_few_before_name.model", "knot 1 1 5 5 5 knot\n"
     yield "r33_first_rate.model", knots_with({0: -1, 47: 200_001})
     yield "r33_last_rate.model", knots_with({0: 200_000, 47: 200_001})
     yield "r33_first_tick.model", knots_with({47: 0, 48: 100_001})
@@ -162,7 +164,9 @@ def models():
     yield "r33_last_change.model", table_with({968: -2_000_000, 969: 2_000_000, 1451: -2_000_001})
     yield "r33_before_second.model", joined_text(knots_with({7: -1}), "table 0 0\n")
     yield "r33_second.model", joined_text(good, knots_with({50: 100_001}))
+    yield "r33_before_name.model", knots_with({47: -1}) + "knot\n"
     yield "r34.model", joined_text(knots_with({}, 1_000), knots_with({}))
+    yield "r34_before_name.model", joined_text(knots_with({}, 1_000), knots_with({})) + "table\n"
     yield "n_empty.model", ""
     yield "n_blank.model", " \r\n\t\n"
     yield "n_word.model", "tables" + good[4:]
@@ -176,6 +180,7 @@ def models():
     yield "n_short_and_left_over.model", "knot 1 1 1 1 1 end\n"
     yield "n_comment.model", good.replace("\n", "   # a comment\n", 1)
     yield "n_two.model", good + good
+    yield "n_name_after.model", good + "knot\n"
     yield "n_joined_none.model", "joined\n"
     yield "n_joined_one.model", "joined\n" + good
     yield "n_joined_three.model", joined_text(good, good) + good

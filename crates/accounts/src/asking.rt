@@ -34,7 +34,7 @@ fn is_in_term(market: &Market, maturity: u16) -> bool
     ensures { result ≡ in_term market.now.state maturity }
 {
     let month = market.state().day.month as u32;
-    month <= maturity as u32 && maturity as u32 <= month + 120
+    (month..=month + 120).contains(&(maturity as u32))
 }
 
 // Whether a standing trade of the account has this number.

@@ -27,6 +27,7 @@ module _ (m : Meaning) (k : MarketState) (n : ℕ) (rs us : List AccountRow) (ts
     trades = p.trades;
     keeps = p.keeps;
     rests = p.rests;
+    others = p.others;
     right_is = λ h. ap AccountReply (p.answer ∙ ap (λ (o : Outcome). o.answer) (cond-true (tables_keep n rs ts) _ _ h));
     right_stands = p.stands;
     wrong_is = λ h qs xs. ap AccountReply (p.answer ∙ ap (λ (o : Outcome). o.answer) (cond-false (tables_keep n rs ts) _ _ h));
@@ -42,6 +43,7 @@ module _ (m : Meaning) (k : MarketState) (n : ℕ) (rs us : List AccountRow) (ts
     trades = p.trades;
     keeps = p.keeps;
     rests = p.rests;
+    others = tt;
     right_is = λ h. ap MarketReply (p.answer ∙ ap (λ (o : MarketOutcome). o.answer) (cond-true (tables_keep n rs ts) _ _ h));
     right_stands = p.stands;
     wrong_is = λ h qs xs. ap MarketReply (p.answer ∙ ap (λ (o : MarketOutcome). o.answer) (cond-false (tables_keep n rs ts) _ _ h));

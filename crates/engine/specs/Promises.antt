@@ -1,8 +1,9 @@
 -- What the calls that answer, replay and play promise.
--- AnswersCall: one call, on any tables. Past: an accepted opening and a list of events that led to a stand.
+-- OthersOf: what a call leaves of the accounts that it does not name. AnswersCall: one call, on any tables.
+-- Past: an accepted opening and a list of events that led to a stand.
 -- IsolatedRun: the isolation of a run from a stand, whatever past led there. HeldBy: tables within their limits that hold a stand. Replays: a list of events, from where a house stands.
--- IsolatedDay: the isolation of a run from an opening. PlaysDay: an opening, and a list of events after it.
-use Rattle.std.specs.Prelude.{◌≡◌, ℕ, suc, ◌<◌, ◌≤◌, min, true, false, if◌then◌else◌, List, ◌++◌, length, take, drop, Ok, Err, Result}
+-- Day, Nothing: an accepted and a refused opening. PlaysDay: an opening, and a list of events after it.
+use Rattle.std.specs.Prelude.{◌≡◌, ℕ, ◌≤◌, min, true, false, if◌then◌else◌, List, ◌++◌, length, take, drop, Ok, Err, Result}
 use Rattle.models.specs.Meaning.{Meaning}
 use Rattle.refusals.specs.declared.refusal.Refusal.{Refusal}
 use Rattle.refusals.specs.Refusals.{first_no}
@@ -11,15 +12,23 @@ use Rattle.tables.specs.declared.row.TradeRow.{TradeRow}
 use Rattle.tables.specs.Limits.{tables_keep}
 use Rattle.market.specs.declared.state.MarketState.{MarketState}
 use Rattle.rules.specs.declared.call.Call.{Call}
+use Rattle.rules.specs.declared.call.Call.TheVariants.{Account, Market}
 use Rattle.rules.specs.declared.call.Event.{Event}
 use Rattle.rules.specs.declared.call.Event.TheVariants.{RightTables, WrongTables}
 use Rattle.rules.specs.declared.call.Reply.{Reply}
+use Rattle.rules.specs.declared.call.Reply.TheVariants.{Account as AccountReply, Market as MarketReply}
 use Rattle.rules.specs.Opening.{opening_questions}
 use Rattle.rules.specs.Stands.{Stand, standing, rows_of, trades_of, AtRest}
+use Rattle.rules.specs.Outcomes.{OthersLeft}
 use Rattle.rules.specs.Calls.{outcome, reply_number}
 use Rattle.isolation.specs.Runs.{after, reply, run, replies, opened}
-use Rattle.isolation.specs.Views.{constituent_trace, house_trace, observed, own_replies}
-use Rattle.isolation.specs.Isolation.{Agree, book_of, Accounted, Covered, Isolation}
+use Rattle.isolation.specs.Isolation.{Isolated, Isolation}
+
+-- what an account call leaves of the accounts that it does not name; it is answered as an account call, and a market call names none
+abbrev pub OthersOf : Meaning → MarketState → ℕ → List AccountRow → List AccountRow → List TradeRow → List TradeRow → Call → Reply → Type 0
+OthersOf m k n rs us ts vs (Account c) (AccountReply a) = OthersLeft m k n rs us ts vs c.account a
+OthersOf m k n rs us ts vs (Account c) (MarketReply a) = Unit {0}
+OthersOf m k n rs us ts vs (Market c) a = Unit {0}
 
 -- n accounts; market k, records rs and places ts before, l, us and vs after; the call c was answered a
 pub record AnswersCall (m : Meaning) (k l : MarketState) (n : ℕ) (rs us : List AccountRow) (ts vs : List TradeRow) (c : Call) (a : Reply) : Type 0 where
@@ -31,6 +40,9 @@ pub record AnswersCall (m : Meaning) (k l : MarketState) (n : ℕ) (rs us : List
   -- limits stay kept, and after an accepted call settling once more changes nothing
   pub keeps : tables_keep n us vs ≡ tables_keep n rs ts
   pub rests : reply_number a ≡ 0 → AtRest m l us vs
+  -- every account that an account call does not name keeps its places, a constituent its record but for the second flag, and the
+  -- house is settled at the cover
+  pub others : OthersOf m k n rs us ts vs c a
   -- as an event of a list: with the house's own tables
   pub right_is : tables_keep n rs ts ≡ true → a ≡ reply m (standing k rs ts) (RightTables c)
   pub right_stands : tables_keep n rs ts ≡ true → standing l us vs ≡ after m (standing k rs ts) (RightTables c)
@@ -51,20 +63,9 @@ pub record Past (m : Meaning) (s : Stand) : Type 0 where
 abbrev pub first_stand : {m : Meaning} {s : Stand} → Past m s → Stand
 first_stand p = opened p.month p.accounts
 
--- a run from s that played es, answered os and ended at t; fs is any other list of events from the same opening, on any model of equal meaning
-pub record IsolatedRun (m : Meaning) (s : Stand) (es : List Event) (os : List Reply) (t : Stand) : Type 0 where
-  pub constituents : (p : Past m s) (j : ℕ) → suc j < p.accounts → (l : Meaning) → Agree m l → (fs : List Event)
-      → constituent_trace m j (first_stand p) (p.events ++ es) ≡ constituent_trace l j (first_stand p) fs
-      → (own_replies (suc j) p.events (replies m (first_stand p) p.events) ++ own_replies (suc j) es os ≡ own_replies (suc j) fs (replies l (first_stand p) fs))
-      × (observed m (suc j) (λ x. book_of x (suc j)) (first_stand p) (p.events ++ es) ≡ observed l (suc j) (λ x. book_of x (suc j)) (first_stand p) fs)
-      × (book_of t (suc j) ≡ book_of (run l (first_stand p) fs) (suc j))
-  pub house : (p : Past m s) (l : Meaning) → Agree m l → (fs : List Event)
-      → house_trace m (first_stand p) (p.events ++ es) ≡ house_trace l (first_stand p) fs
-      → (own_replies 0 p.events (replies m (first_stand p) p.events) ++ own_replies 0 es os ≡ own_replies 0 fs (replies l (first_stand p) fs))
-      × (observed m 0 (λ x. book_of x 0) (first_stand p) (p.events ++ es) ≡ observed l 0 (λ x. book_of x 0) (first_stand p) fs)
-      × (book_of t 0 ≡ book_of (run l (first_stand p) fs) 0)
-  pub accounted : (p : Past m s) → Accounted p.accounts (p.events ++ es) (replies m (first_stand p) p.events ++ os) t
-  pub covered : Past m s → Covered m t
+-- a run from s that played es, answered os and ended at t: whatever past led to s, past and run are isolated, as one list from the opening
+abbrev pub IsolatedRun : Meaning → Stand → List Event → List Reply → Stand → Type 0
+IsolatedRun m s es os t = (p : Past m s) → Isolated m p.month p.accounts (p.events ++ es) (replies m (first_stand p) p.events ++ os) t
 
 -- the tables of n accounts that a stand is keep their limits, and the stand is what they hold
 pub record HeldBy (n : ℕ) (s : Stand) : Type 0 where
@@ -86,25 +87,6 @@ pub record Replays (m : Meaning) (k l : MarketState) (n : ℕ) (rs us : List Acc
   pub throughout : tables_keep n rs ts ≡ true → (i : ℕ) → i ≤ r → HeldBy n (run m (standing k rs ts) (take i es))
   pub isolated : IsolatedRun m (standing k rs ts) (take r es) (take r ps) (standing l us vs)
 
--- the same of a run from the opening with n accounts in a month: there is no past to speak of
-pub record IsolatedDay (m : Meaning) (month n : ℕ) (es : List Event) (os : List Reply) (t : Stand) : Type 0 where
-  -- whatever the others do: a constituent that is told the same is answered the same, observes the same, and holds the same at the end
-  pub constituents : (j : ℕ) → suc j < n → (l : Meaning) → Agree m l → (fs : List Event)
-      → constituent_trace m j (opened month n) es ≡ constituent_trace l j (opened month n) fs
-      → (own_replies (suc j) es os ≡ own_replies (suc j) fs (replies l (opened month n) fs))
-      × (observed m (suc j) (λ x. book_of x (suc j)) (opened month n) es ≡ observed l (suc j) (λ x. book_of x (suc j)) (opened month n) fs)
-      × (book_of t (suc j) ≡ book_of (run l (opened month n) fs) (suc j))
-  -- the house likewise; its restriction stands in its record
-  pub house : (l : Meaning) → Agree m l → (fs : List Event)
-      → house_trace m (opened month n) es ≡ house_trace l (opened month n) fs
-      → (own_replies 0 es os ≡ own_replies 0 fs (replies l (opened month n) fs))
-      × (observed m 0 (λ x. book_of x 0) (opened month n) es ≡ observed l 0 (λ x. book_of x 0) (opened month n) fs)
-      × (book_of t 0 ≡ book_of (run l (opened month n) fs) 0)
-  -- every account holds what its accepted calls of this run lodged less what they drew
-  pub accounted : Accounted n es os t
-  -- the cover is the sum of what the constituents lack, and the house's obligation carries it
-  pub covered : Covered m t
-
 -- what an accepted opening and the first r of the events made
 pub record Day (m : Meaning) (month n : ℕ) (l : MarketState) (us : List AccountRow) (vs : List TradeRow) (es : List Event) (os ps : List Reply) (r : ℕ) : Type 0 where
   pub played : r ≡ min (length es) (length os)
@@ -115,7 +97,8 @@ pub record Day (m : Meaning) (month n : ℕ) (l : MarketState) (us : List Accoun
   pub trades : vs ≡ trades_of (run m (opened month n) (take r es))
   pub keeps : tables_keep n us vs ≡ true
   pub throughout : (i : ℕ) → i ≤ r → HeldBy n (run m (opened month n) (take i es))
-  pub isolated : IsolatedDay m month n (take r es) (take r ps) (standing l us vs)
+  -- of this very run: there is no past to speak of
+  pub isolated : Isolated m month n (take r es) (take r ps) (standing l us vs)
 
 -- a refused opening leaves everything as it was, and nothing is played
 pub record Nothing (k l : MarketState) (h h' : ℕ) (rs us : List AccountRow) (ts vs : List TradeRow) (os ps : List Reply) : Type 0 where

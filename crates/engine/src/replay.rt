@@ -32,7 +32,7 @@ fn play_event<M: MarginModel>(
     }
 }
 
-// The events on tables that keep their limits.
+// The events on tables that keep their limits. No loop in common with `house::listing`, which says why.
 fn play_events<M: MarginModel>(
     house: &mut House,
     model: &M,

@@ -15,7 +15,7 @@ use Rattle.rules.specs.declared.call.Reply.{Reply}
 use Rattle.rules.specs.declared.call.Reply.TheVariants.{Account as AccountReply, Market as MarketReply}
 use Rattle.rules.specs.Outcomes.{blank_answer}
 use Rattle.isolation.specs.Runs.{run, opened}
-use Rattle.engine.specs.Promises.{IsolatedDay}
+use Rattle.isolation.specs.Isolation.{Isolated}
 use Rattle.eventrun.specs.Calls.{calls_in, event_of}
 use Rattle.eventrun.specs.declared.play.FileRun.{FileRun}
 use Rattle.eventrun.specs.declared.play.Played.{Played}
@@ -45,7 +45,7 @@ answers_in m (DrawCash a c ∷ es) = []
 abbrev pub IsolatedFile : Meaning → List Event → List Answer → Type 0
 IsolatedFile m [] os = Unit {0}
 IsolatedFile m (Open n month ∷ es) os =
-    opening_number n month ≡ 0 → IsolatedDay m month n (map event_of (calls_in es)) (map AccountReply os) (run m (opened month n) (map event_of (calls_in es)))
+    opening_number n month ≡ 0 → Isolated m month n (map event_of (calls_in es)) (map AccountReply os) (run m (opened month n) (map event_of (calls_in es)))
 IsolatedFile m (Trade a n b s mo c t ∷ es) os = Unit {0}
 IsolatedFile m (LodgeCash a c ∷ es) os = Unit {0}
 IsolatedFile m (DrawCash a c ∷ es) os = Unit {0}

@@ -20,14 +20,6 @@ use rules::house::House;
 use std::alloc::{AllocError, Global};
 use tables::row::{AccountRow, NO_TRADE, TradeRow};
 
-const NO_ANSWER: Answer = Answer {
-    number: 0,
-    restriction: 0,
-    obligation: 0,
-    available: 0,
-    shortfall: 0,
-};
-
 // The records of a file up to its first fault, and that fault.
 #[derive(Drop)]
 pub struct Found {
@@ -78,7 +70,7 @@ fn answer_in(reply: Reply) -> Answer
 {
     match reply {
         Reply::Account(answer) => answer,
-        Reply::Market(_) => NO_ANSWER,
+        Reply::Market(_) => Answer::blank(0),
     }
 }
 
@@ -117,7 +109,7 @@ fn play_opened<M: MarginModel>(
 {
     let calls = calls_in(heap, later)?;
     let events = events_in(heap, calls.as_slice())?;
-    let mut replies = vec![in heap; Reply::Account(NO_ANSWER); events.len()]?;
+    let mut replies = vec![in heap; Reply::Account(Answer::blank(0)); events.len()]?;
     let mut rows = vec![in heap; empty_row(); accounts as usize]?;
     let mut places = vec![in heap; NO_TRADE; 64 * accounts as usize]?;
     let mut house = unopened();

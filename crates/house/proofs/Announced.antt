@@ -1,8 +1,9 @@
 -- A market call on the tables, and by the rules.
 use Rattle.std.proofs.Common.{◌≡◌, ℕ, ◌≤◌, true, List, [], ◌∷◌, map, length, get_or, drop, None, Ok, Err, Option, Result, sym, refl, ap, ◌∙◌, ap₂, arith}
+use mathlib.Core.List.{map-map}
 use Rattle.models.specs.Meaning.{Meaning}
 use Rattle.refusals.specs.declared.refusal.Refusal.{Refusal}
-use Rattle.refusals.specs.Refusals.{first_no, decided, number_of, result_number}
+use Rattle.refusals.specs.Refusals.{first_no, decided, result_number}
 use Rattle.tables.specs.declared.row.AccountRow.{AccountRow}
 use Rattle.tables.specs.declared.row.TradeRow.{TradeRow}
 use Rattle.tables.specs.Books.{Book, books_of, no_book}
@@ -23,15 +24,11 @@ pub unaged : (o : Option ℕ) (bs : List Book) → o ≡ None → bs ≡ map (ag
 unaged o [] e = refl
 unaged o (b ∷ bs) e = ap₂ (λ (x : Book) (l : List Book). x ∷ l) (ap (λ (p : Option ℕ). aged_by p b) (sym e)) (unaged o bs e)
 
-map_twice : (f g : Book → Book) (bs : List Book) → map g (map f bs) ≡ map (λ (b : Book). g (f b)) bs
-map_twice f g [] = refl
-map_twice f g (b ∷ bs) = ap (λ (l : List Book). g (f b) ∷ l) (map_twice f g bs)
-
 -- every book aged, and then every constituent settled
 passed : (m : Meaning) (k : MarketState) (c : MarketCall) (bs : List Book) → 1 ≤ length bs
     → finish m (stand_of k (get_or (map (aged c) bs) 0 no_book ∷ map (settled m k 0) (drop 1 (map (aged c) bs)))) ≡ finish m (record { market = k; house = aged c (get_or bs 0 no_book); constituents = map (λ (b : Book). settled m k 0 (aged c b)) (drop 1 bs) })
 passed m k c [] some = absurd (omega arith)
-passed m k c (b ∷ bs) some = ap (λ (l : List Book). finish m (record { market = k; house = aged c b; constituents = l })) (map_twice (aged c) (settled m k 0) bs)
+passed m k c (b ∷ bs) some = ap (λ (l : List Book). finish m (record { market = k; house = aged c b; constituents = l })) (map-map (settled m k 0) (aged c) bs)
 
 module _ (m : Meaning) (k : MarketState) (n : ℕ) (rs : List AccountRow) (ts : List TradeRow) (c : MarketCall) (some : 1 ≤ n) (h : tables_keep n rs ts ≡ true) where
   abbrev s : Stand
@@ -40,16 +37,10 @@ module _ (m : Meaning) (k : MarketState) (n : ℕ) (rs : List AccountRow) (ts : 
   abbrev asked : Result (Unit {0}) Refusal
   asked = first_no (market_questions m.sets k c)
 
-  pub market_refused : (e : Refusal) → asked ≡ Err e
-      → (market_answer (number_of e) k ≡ market_reply m s c) × (k ≡ (after_market m s c).market) × (rs ≡ rows_of (after_market m s c)) × (ts ≡ trades_of (after_market m s c)) × (s ≡ after_market m s c)
+  pub market_refused : (e : Refusal) → asked ≡ Err e → (rs ≡ rows_of (after_market m s c)) × (ts ≡ trades_of (after_market m s c))
   market_refused e is =
-      let stays : after_market m s c ≡ s = ap (λ (r : Result (Unit {0}) Refusal). decided r (all_settled m (market_changed c k) c s) (λ e. s)) is in (
-        sym (ap₂ (λ (r : Result (Unit {0}) Refusal) (t : Stand). market_answer (result_number r) t.market) is stays),
-        sym (ap (λ (t : Stand). t.market) stays),
-        sym (ap rows_of stays ∙ rows_stand k n rs ts some h),
-        sym (ap trades_of stays ∙ trades_stand k n rs ts some h),
-        sym stays,
-      )
+      let stays : after_market m s c ≡ s = ap (λ (r : Result (Unit {0}) Refusal). decided r (all_settled m (market_changed c k) c s) (λ e. s)) is in
+      (sym (ap rows_of stays ∙ rows_stand k n rs ts some h), sym (ap trades_of stays ∙ trades_stand k n rs ts some h))
 
   pub market_granted : (k' : MarketState) (rs₁ rs₂ us : List AccountRow) (ts₁ : List TradeRow) → asked ≡ Ok tt → k' ≡ market_changed c k
       → books_of rs₁ ts₁ ≡ map (aged c) (books_of rs ts)

@@ -1,8 +1,6 @@
 -- A book without its matured trades: it is what the code leaves, and within its limits.
-use Rattle.std.proofs.Common.{◌≡◌, ℕ, ◌-◌, ◌≤◌, true, not, ◌&&◌, leb, List, ◌++◌, length, take, drop, replicate, filter, sym, refl, ap, ◌∙◌, ap₂, arith, length-append, length-drop, length-take, length-take-le, take_at, drop_at}
-use borrow.Rule.Slice.PartMut.{put_mid}
+use Rattle.std.proofs.Common.{◌≡◌, ℕ, ◌-◌, ◌≤◌, true, not, ◌&&◌, leb, List, length, drop, replicate, filter, refl, ap, ◌∙◌, arith, length-append, length-take, take_at, drop_at}
 use lib.ListN.{length-replicate}
-use lib.Seq.{take-append-le}
 use Rattle.std.proofs.lemmas.List.Filters.{length-filter_both}
 use Rattle.std.proofs.lemmas.Bool.{and_parts, and_from, le-leb}
 use Rattle.tables.specs.declared.row.TradeRow.{TradeRow}
@@ -44,13 +42,3 @@ matured_keeps most month b long h =
       figures = k.figures;
       places = closed_keeps ts (left_few month b long) (list_all_kept trade_keeps (running month) (standing_of b) q.0);
     })
-
--- the places after the trades that go on were moved to the front, and the rest emptied
-pub moved : (ps ys zs ts : List TradeRow) (n left : ℕ) → length ps ≡ 64 → n ≤ 64 → length ys ≡ n → left ≤ n → take left ys ≡ ts → zs ≡ take left (put_mid 0 (n - 0) ps ys) ++ replicate (length (put_mid 0 (n - 0) ps ys) - left) no_trade
-    → (zs ≡ closed_up ts) × (left ≡ length ts)
-moved ps ys zs ts n left long few ly le front e =
-    let rest = drop (n - 0) ps in
-    let front-is : take left (ys ++ rest) ≡ ts = take-append-le left ys rest (omega arith) ∙ front in
-    let count : left ≡ length ts = sym (length-take-le left ys (omega arith)) ∙ ap length front in
-    let whole : length (ys ++ rest) ≡ 64 = omega (arith, length-append ys rest, length-drop (n - 0) ps) in
-    (e ∙ ap₂ (λ (l : List TradeRow) (k : ℕ). l ++ replicate k no_trade) front-is (ap₂ (λ (a b : ℕ). a - b) whole count), count)

@@ -42,16 +42,11 @@ fn answered(number: u8, row: &AccountRow) -> Answer
 fn refused(refusal: Refusal) -> Answer
     ensures { result ≡ blank_answer (number_of refusal) }
 {
-    Answer {
-        number: refusal.number(),
-        restriction: 0,
-        obligation: 0,
-        available: 0,
-        shortfall: 0,
-    }
+    Answer::blank(refusal.number())
 }
 
-// An account's record and places, read out of the tables.
+// An account's record and places, read out of the tables. The places are copied into a blank array: an array from a slice by
+// `try_from` could fail, and asks an `unwrap`.
 pub(crate) fn read_book(
     house: &House,
     records: &[AccountRow],
@@ -94,7 +89,7 @@ fn cover_for(house: &House, records: &[AccountRow], trades: &[TradeRow], account
     }
 }
 
-// A call on an account that is there, on tables that keep their limits.
+// A call on an account that is there, on tables that keep their limits. Account and call stand apart, as the calls by name have them.
 fn act<M: MarginModel>(
     house: &House,
     model: &M,
@@ -124,7 +119,7 @@ fn act<M: MarginModel>(
     }
 }
 
-// Any account call, with any tables.
+// Any account call, with any tables. Account and call stand apart, as in `act`.
 pub fn answer_account<M: MarginModel>(
     house: &House,
     model: &M,
@@ -140,8 +135,8 @@ pub fn answer_account<M: MarginModel>(
     ensures rests { result.number ≡ 0 → AtRest (M.meaning model.now) house.now.market.state records.new trades.new }
     // As an event of a list of calls.
     ensures stands { tables_keep house.now.accounts records.old trades.old ≡ true → standing house.now.market.state records.new trades.new ≡ after_account (M.meaning model.now) (standing house.now.market.state records.old trades.old) account call }
-    // Every other account keeps its places, and its record but for the second flag.
-    ensures others { OthersLeft house.now.accounts records.old records.new trades.old trades.new account result }
+    // Every other account keeps its places, a constituent its record but for the second flag, and the house is settled at the cover.
+    ensures others { OthersLeft (M.meaning model.now) house.now.market.state house.now.accounts records.old records.new trades.old trades.new account result }
 {
     if !tables_keep(house.accounts, records, trades) {
         return refused(Refusal::Tables);

@@ -1,5 +1,5 @@
-// The account calls by name, since callers know them so. Each asks its questions in order and answers the first no; a refused
-// call changes nothing.
+// The account calls by name. They stand beside `answer_account` since callers in Rattle know each by its name and arguments.
+// Each asks its questions in order and answers the first no; a refused call changes nothing.
 ghost use Rattle.std.specs.Prelude.{◌≡◌};
 ghost use Rattle.rules.specs.Outcomes.{Answered};
 

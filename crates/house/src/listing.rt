@@ -10,6 +10,8 @@ use tables::row::{AccountRow, TradeRow};
 
 // Answers the calls in turn, as many as there is room for. Gives how many they are: the room is the caller's, since no heap is
 // used here. By index, since of a `zip` with an `iter_mut` a proof does not learn what was written.
+// `engine::replay` has the same three lines over calls of any kind: a common loop would take the step as an `FnMut` that changes the
+// tables, and what a list of such steps leaves as a premise, which is longer than the loop.
 pub fn answer_all<M: MarginModel>(
     house: &House,
     model: &M,

@@ -3,7 +3,7 @@ ghost use Rattle.std.specs.Prelude.{◌≡◌, true, map};
 ghost use Rattle.tables.specs.Books.{books_of};
 ghost use Rattle.tables.specs.Limits.{tables_keep};
 ghost use Rattle.rules.specs.Stands.{standing, rows_of, trades_of, AtRest};
-ghost use Rattle.rules.specs.MarketCalls.{new_month, aged, after_market, market_answer, market_reply, MarketAnswered};
+ghost use Rattle.rules.specs.MarketCalls.{aged, after_market, market_answer, market_reply, MarketAnswered};
 
 use super::maturing::mature_all;
 use super::settle::{finish_settling, settle_constituents};
@@ -30,31 +30,14 @@ fn answered(number: u8, market: &Market) -> MarketAnswer
     }
 }
 
-// The month that a call begins, if it begins one.
-fn month_begun(call: MarketCall) -> Option<u16>
-    ensures { result ≡ new_month call }
-{
-    match call {
-        MarketCall::Month(month) => Some(month),
-        MarketCall::Set(_)
-        | MarketCall::Price(_)
-        | MarketCall::StepUp(_)
-        | MarketCall::Averages(_, _)
-        | MarketCall::Thresholds(_, _)
-        | MarketCall::Volatility(_)
-        | MarketCall::Close => None,
-    }
-}
-
 // What a market call changes in the accounts before they settle.
 fn age(house: &House, records: &mut [AccountRow], trades: &mut [TradeRow], call: MarketCall)
     requires { tables_keep house.now.accounts records.old trades.old ≡ true }
     ensures books { books_of records.new trades.new ≡ map (aged call) (books_of records.old trades.old) }
     ensures keeps { tables_keep house.now.accounts records.new trades.new ≡ true }
 {
-    match month_begun(call) {
-        Some(month) => mature_all(house, records, trades, month),
-        None => {}
+    if let MarketCall::Month(month) = call {
+        mature_all(house, records, trades, month);
     }
 }
 

@@ -33,7 +33,8 @@ fn clear_from(places: &mut [TradeRow], at: usize)
     places[at..].fill(NO_TRADE);
 }
 
-// The places of one account, of which the first `count` hold trades. Gives how many trades are left.
+// The places of one account, of which the first `count` hold trades. Gives how many trades are left. The 64 places are a
+// slice and no array: they are a part of the caller's table, and an array would be a conversion that can fail.
 fn mature_places(places: &mut [TradeRow], count: u8, month: u16) -> u8
     requires { (length places.old ≡ 64) × (count ≤ 64) }
     ensures places { places.new ≡ closed_up (filter (running month) (take count places.old)) }
@@ -44,7 +45,7 @@ fn mature_places(places: &mut [TradeRow], count: u8, month: u16) -> u8
     left as u8
 }
 
-// One account, its record and its places.
+// One account, its record and its places, a slice as in `mature_places`.
 fn mature_account(row: &mut AccountRow, places: &mut [TradeRow], month: u16)
     requires { (length places.old ≡ 64) × (row.old.trades ≤ 64) }
     ensures row { row.new ≡ (matured_out month (book row.old places.old)).row }

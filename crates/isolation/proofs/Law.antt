@@ -1,5 +1,5 @@
 -- The law, put together.
-use Rattle.std.proofs.Common.{◌≡◌, ℕ, zero, suc, ◌+◌, ◌<◌, ◌≤◌, Bool, nat_eq, List, length, slice_index_or, replicate, ℤ, sym, refl, ap, ◌∙◌, subst, zero-add, arith}
+use Rattle.std.proofs.Common.{◌≡◌, ℕ, zero, suc, ◌+◌, ◌<◌, ◌≤◌, Bool, nat_eq, List, length, take, slice_index_or, replicate, ℤ, sym, refl, ap, ◌∙◌, subst, zero-add, arith}
 use mathlib.Core.Path.{fun_ext}
 use mathlib.Core.Bool.{beq}
 use Rattle.std.proofs.lemmas.List.{length-replicate, get_or-replicate}
@@ -8,13 +8,14 @@ use Rattle.std.specs.List.{All}
 use Rattle.models.specs.Meaning.{Meaning}
 use Rattle.tables.specs.Books.{Book, no_book}
 use Rattle.rules.specs.declared.call.Event.{Event}
+use Rattle.rules.specs.declared.call.Reply.{Reply}
 use Rattle.rules.specs.Opening.{empty_row, opened_market}
 use Rattle.rules.specs.Stands.{Stand, stand_of, books_in, cover_of}
 use Rattle.rules.proofs.Empty.{empty_book, books_empty, opened_rests}
 use Rattle.isolation.specs.Runs.{run, replies, opened, accepted}
 use Rattle.isolation.specs.Views.{View, constituent_view, house_view, restriction_of_house, constituent_trace, house_trace, observed}
-use Rattle.isolation.specs.Isolation.{Agree, book_of, lacking, drawn_cash, lodged_cash, drawn_lots, lodged_lots, Accounted, Covered, Isolation}
-use Rattle.isolation.proofs.Unwinding.{isolated}
+use Rattle.isolation.specs.Isolation.{Agree, book_of, lacking, drawn_cash, lodged_cash, drawn_lots, lodged_lots, Accounted, Covered, Alike, Isolation}
+use Rattle.isolation.proofs.Unwinding.{isolated, heard, take_replies}
 use Rattle.isolation.proofs.Steps.{Rests, rests_run}
 use Rattle.isolation.proofs.Constituents.{constituent_unwound}
 use Rattle.isolation.proofs.Houses.{house_unwound}
@@ -78,7 +79,7 @@ module _ (m : Meaning) (month n : ℕ) where
   abbrev first : Stand
   first = opened month n
 
-  pub constituents_isolated : (j : ℕ) → suc j < n → (l : Meaning) → Agree m l → (es fs : List Event) → constituent_trace m j first es ≡ constituent_trace l j first fs
+  constituents_isolated : (j : ℕ) → suc j < n → (l : Meaning) → Agree m l → (es fs : List Event) → constituent_trace m j first es ≡ constituent_trace l j first fs
       → (observed m (suc j) (λ s. book_of s (suc j)) first es ≡ observed l (suc j) (λ s. book_of s (suc j)) first fs) × (book_of (run m first es) (suc j) ≡ book_of (run l first fs) (suc j))
   constituents_isolated j lt l a es fs =
       subst (λ (k : Meaning). constituent_trace m j first es ≡ constituent_trace k j first fs
@@ -89,7 +90,7 @@ module _ (m : Meaning) (month n : ℕ) where
       let o = isolated restriction_of_house beq m (suc j) (constituent_view j) (constituent_unwound m j) first first es fs kept kept refl h in
       (o.0, ap (λ (v : View Bool). v.own) o.1))
 
-  pub house_isolated : 1 ≤ n → (l : Meaning) → Agree m l → (es fs : List Event) → house_trace m first es ≡ house_trace l first fs
+  house_isolated : 1 ≤ n → (l : Meaning) → Agree m l → (es fs : List Event) → house_trace m first es ≡ house_trace l first fs
       → (observed m 0 (λ s. book_of s 0) first es ≡ observed l 0 (λ s. book_of s 0) first fs) × (book_of (run m first es) 0 ≡ book_of (run l first fs) 0)
   house_isolated some l a es fs =
       subst (λ (k : Meaning). house_trace m first es ≡ house_trace k first fs
@@ -103,7 +104,7 @@ module _ (m : Meaning) (month n : ℕ) where
   many : 1 ≤ n → (i : ℕ) → i < n → i < length (books_in first)
   many some i l = omega (arith, opened_length month n some)
 
-  pub accounted_run : 1 ≤ n → (es : List Event) → Accounted n es (replies m first es) (run m first es)
+  accounted_run : 1 ≤ n → (es : List Event) → Accounted n es (replies m first es) (run m first es)
   accounted_run some es = record {
     cash = λ i l.
         let none : (book_of first i).row.cash ≡ 0 = ap (λ (b : Book). b.row.cash) (opened_book month n i l) ∙ empty_cash in
@@ -116,13 +117,21 @@ module _ (m : Meaning) (month n : ℕ) where
         g ∙ ap (λ (x : ℕ). x + accepted (lodged_lots which) i es (replies m first es)) none ∙ zero-add (accepted (lodged_lots which) i es (replies m first es));
   }
 
-  pub covered_run : 1 ≤ n → (es : List Event) → Covered m (run m first es)
+  covered_run : 1 ≤ n → (es : List Event) → Covered m (run m first es)
   covered_run some es = covered_at m (run m first es) (rests_run m first es (opened_at_rest m month n some)) (short_run m first es (opened_short month n some))
 
 pub isolation : (m : Meaning) → Isolation m
-isolation m = record {
-  constituents = λ month n j lt l a es fs. constituents_isolated m month n j lt l a es fs;
-  house = λ month n some l a es fs. house_isolated m month n some l a es fs;
-  accounted = λ month n some es. accounted_run m month n some es;
-  covered = λ month n some es. covered_run m month n some es;
-}
+isolation m month n some es =
+    let first = opened month n in
+    let alike : (l : Meaning) (i : ℕ) (fs : List Event)
+    → (observed m i (λ s. book_of s i) first es ≡ observed l i (λ s. book_of s i) first fs) × (book_of (run m first es) i ≡ book_of (run l first fs) i)
+    → Alike m l i first es fs (replies m first es) (run m first es) =
+    λ l i fs o. record { answered = heard m l i (λ s. book_of s i) first first es fs o.0; observes = o.0; holds = o.1 } in
+    record {
+      constituents = λ j lt l a fs h. alike l (suc j) fs (constituents_isolated m month n j lt l a es fs h);
+      house = λ l a fs h. alike l 0 fs (house_isolated m month n some l a es fs h);
+      accounted = λ i le. subst (λ (os : List Reply). Accounted n (take i es) os (run m first (take i es))) (sym (take_replies m first i es)) (accounted_run m month n some (take i es));
+      covered = λ i le. covered_run m month n some (take i es);
+      accounted_end = accounted_run m month n some es;
+      covered_end = covered_run m month n some es;
+    }

@@ -1,5 +1,5 @@
--- What an account call leaves of the constituents that it does not name.
-use Rattle.std.proofs.Common.{◌≡◌, ℕ, zero, suc, ◌<◌, ◌≤◌, Bool, false, if◌then◌else◌, nat_eq, ◌⊎◌, length, slice_set, sym, ap, ◌∙◌, subst, ap₂, inl, inr, arith, length-set, get_or-set_other}
+-- What an account call leaves of the accounts that it does not name.
+use Rattle.std.proofs.Common.{◌≡◌, ℕ, zero, suc, ◌<◌, ◌≤◌, Bool, false, if◌then◌else◌, nat_eq, ◌⊎◌, length, slice_set, sym, refl, ap, ◌∙◌, subst, ap₂, inl, inr, arith, length-set, get_or-set_other}
 use Rattle.std.proofs.lemmas.List.{get_or-map}
 use Rattle.std.proofs.lemmas.Bool.{ne_eqb, le-ltb, cond-false, cases_lt}
 use Rattle.models.specs.Meaning.{Meaning}
@@ -8,11 +8,13 @@ use Rattle.refusals.specs.declared.refusal.Refusal.TheVariants.{NoAccount}
 use Rattle.refusals.specs.Refusals.{number_of}
 use Rattle.refusals.proofs.Facts.{refusal_some}
 use Rattle.tables.specs.Books.{Book, no_book}
+use Rattle.market.specs.declared.state.MarketState.{MarketState}
 use Rattle.rules.specs.declared.call.AccountCall.{AccountCall}
 use Rattle.rules.specs.declared.call.Answer.{Answer}
-use Rattle.rules.specs.Settling.{reflagged}
-use Rattle.rules.specs.Stands.{Stand, Verdict, refused, granted, books_in, finish, after_account}
+use Rattle.rules.specs.Settling.{house_settled, reflagged}
+use Rattle.rules.specs.Stands.{Stand, Verdict, refused, granted, books_in, cover_of, finish, after_account}
 use Rattle.rules.specs.Outcomes.{verdict_number, account_reply, blank_answer}
+use Rattle.rules.proofs.Resting.{cover_reflagged}
 use Rattle.isolation.specs.Isolation.{book_of}
 use Rattle.isolation.proofs.Steps.{house_after, constituent_after, house_verdict, constituent_verdict, house_steps, house_replies, constituent_steps, constituent_replies, absent_steps}
 
@@ -54,3 +56,28 @@ others_left m s (suc i) c j l ne = go (cases_lt i (length s.constituents))
         let two : account_reply m s (suc i) c ≡ blank_answer (number_of NoAccount) = cond-false _ _ (blank_answer (number_of NoAccount)) (le-ltb (suc i) (length (books_in s)) (omega arith)) in
         ap (λ (t : Stand). book_of t (suc j)) (absent_steps m s c i h)
         ∙ ap (λ (n : ℕ). left_book (nat_eq n 0) (after_account m s (suc i) c).house.row.own (book_of s (suc j))) (sym (ap (λ (a : Answer). a.number) two))
+
+-- the house's book after a call on a constituent
+abbrev pub left_house : Meaning → MarketState → Bool → ℕ → Book → Book
+left_house m k accepted cover b = (if accepted then house_settled m k cover b else b)
+
+constituent_settles : (m : Meaning) (s : Stand) (i : ℕ) (v : Verdict Book)
+    → (constituent_after m s i v).house ≡ left_house m s.market (nat_eq (verdict_number v) 0) (cover_of (constituent_after m s i v)) s.house
+constituent_settles m s i (refused r) = sym (cond-false (nat_eq (number_of r) 0) (house_settled m s.market (cover_of s) s.house) s.house (refused_number r))
+constituent_settles m s i (granted b) =
+    let d : Stand = record { market = s.market; house = s.house; constituents = slice_set s.constituents i b } in
+    ap (λ (x : ℕ). house_settled m s.market x s.house) (sym (cover_reflagged (finish m d).house.row.own d.constituents))
+
+pub house_kept : (m : Meaning) (s : Stand) (i : ℕ) (c : AccountCall) → (0 ≡ i → ⊥)
+    → (after_account m s i c).house ≡ left_house m s.market (nat_eq (account_reply m s i c).number 0) (cover_of (after_account m s i c)) s.house
+house_kept m s zero c ne = absurd (ne refl)
+house_kept m s (suc i) c ne = go (cases_lt i (length s.constituents))
+  where
+    go : (i < length s.constituents) ⊎ (length s.constituents ≤ i) → (after_account m s (suc i) c).house ≡ left_house m s.market (nat_eq (account_reply m s (suc i) c).number 0) (cover_of (after_account m s (suc i) c)) s.house
+    go (inl h) =
+        ap (λ (t : Stand). t.house) (constituent_steps m s c i h) ∙ constituent_settles m s i (constituent_verdict m s i c)
+        ∙ ap₂ (λ (n : ℕ) (t : Stand). left_house m s.market (nat_eq n 0) (cover_of t) s.house) (sym (ap (λ (a : Answer). a.number) (constituent_replies m s c i h))) (sym (constituent_steps m s c i h))
+    go (inr h) =
+        let two : account_reply m s (suc i) c ≡ blank_answer (number_of NoAccount) = cond-false _ _ (blank_answer (number_of NoAccount)) (le-ltb (suc i) (length (books_in s)) (omega arith)) in
+        ap (λ (t : Stand). t.house) (absent_steps m s c i h)
+        ∙ ap (λ (n : ℕ). left_house m s.market (nat_eq n 0) (cover_of (after_account m s (suc i) c)) s.house) (sym (ap (λ (a : Answer). a.number) two))

@@ -1,5 +1,5 @@
 -- Unwinding: where a holder's view goes by what the holder is told, holders that see and are told the same observe the same.
-use Rattle.std.proofs.Common.{◌≡◌, ℕ, suc, Bool, true, false, if◌then◌else◌, List, [], ◌∷◌, ◌++◌, map, length, sym, refl, ap, ◌∙◌, ap₂, append_assoc}
+use Rattle.std.proofs.Common.{◌≡◌, ℕ, zero, suc, Bool, true, false, if◌then◌else◌, List, [], ◌∷◌, ◌++◌, map, take, sym, refl, ap, ◌∙◌, ap₂}
 use Rattle.models.specs.Meaning.{Meaning}
 use Rattle.tables.specs.Books.{Book}
 use Rattle.rules.specs.declared.call.Event.{Event}
@@ -78,11 +78,16 @@ module _ (m : Meaning) (i : ℕ) (own : Stand → Book) where
   firsts e s true xs os p = ap (λ (l : List Reply). reply m s e ∷ l) p
   firsts e s false xs os p = p
 
-  pub replies_observed : (s : Stand) (es : List Event) → map (λ (x : Reply × Book). x.0) (observed m i own s es) ≡ own_replies i es (replies m s es)
+  replies_observed : (s : Stand) (es : List Event) → map (λ (x : Reply × Book). x.0) (observed m i own s es) ≡ own_replies i es (replies m s es)
   replies_observed s [] = refl
   replies_observed s (e ∷ es) = firsts e s (concerns i e) _ _ (replies_observed (after m s e) es)
 
--- one list after the other
+-- the answers to account i, out of what it observed
+pub heard : (m l : Meaning) (i : ℕ) (own : Stand → Book) (s t : Stand) (es fs : List Event) → observed m i own s es ≡ observed l i own t fs → own_replies i es (replies m s es) ≡ own_replies i fs (replies l t fs)
+heard m l i own s t es fs e =
+    sym (replies_observed m i own s es) ∙ ap (map (λ (x : Reply × Book). x.0)) e ∙ replies_observed l i own t fs
+
+-- one list after the other, and the first part of a list
 module _ (m : Meaning) where
   pub run_append : (s : Stand) (es fs : List Event) → run m s (es ++ fs) ≡ run m (run m s es) fs
   run_append s [] fs = refl
@@ -92,13 +97,7 @@ module _ (m : Meaning) where
   replies_append s [] fs = refl
   replies_append s (e ∷ es) fs = ap (λ (l : List Reply). reply m s e ∷ l) (replies_append (after m s e) es fs)
 
-  pub own_append : (i : ℕ) (s : Stand) (es fs : List Event)
-      → own_replies i (es ++ fs) (replies m s (es ++ fs)) ≡ own_replies i es (replies m s es) ++ own_replies i fs (replies m (run m s es) fs)
-  own_append i s [] fs = refl
-  own_append i s (e ∷ es) fs =
-      ap (λ (l : List Reply). (if concerns i e then reply m s e ∷ [] else []) ++ l) (own_append i (after m s e) es fs)
-      ∙ sym (append_assoc (if concerns i e then reply m s e ∷ [] else []) _ _)
-
-  pub length_replies : (s : Stand) (es : List Event) → length (replies m s es) ≡ length es
-  length_replies s [] = refl
-  length_replies s (e ∷ es) = ap suc (length_replies (after m s e) es)
+  pub take_replies : (s : Stand) (i : ℕ) (es : List Event) → take i (replies m s es) ≡ replies m s (take i es)
+  take_replies s zero es = refl
+  take_replies s (suc i) [] = refl
+  take_replies s (suc i) (e ∷ es) = ap (λ (l : List Reply). reply m s e ∷ l) (take_replies (after m s e) i es)

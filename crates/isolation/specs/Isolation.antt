@@ -2,8 +2,9 @@
 -- Agree: two meanings that agree at every question. book_of: the record and places of account i.
 -- lodged_cash, drawn_cash, lodged_lots, drawn_lots: what a call lodges or draws. lacking: obligation less available, where that is positive.
 -- own_margins: the house's obligation without the cover. Accounted, Covered: what holds of cash, lots and cover.
--- Isolation: the law, for every list of calls from an accepted opening, on every model that means m.
-use Rattle.std.specs.Prelude.{◌≡◌, ℕ, suc, ◌+◌, ◌-◌, ◌<◌, ◌≤◌, if◌then◌else◌, List, sum_by, ◌==◌, slice_index, slice_index_or}
+-- Alike: what two lists leave one account is the same. Isolated: the isolation of one list of calls from an accepted opening.
+-- Isolation: the law, for every such list, on every model that means m.
+use Rattle.std.specs.Prelude.{◌≡◌, ℕ, suc, ◌+◌, ◌-◌, ◌<◌, ◌≤◌, if◌then◌else◌, List, length, take, sum_by, ◌==◌, slice_index, slice_index_or}
 use Rattle.models.specs.Meaning.{Meaning}
 use Rattle.tables.specs.Books.{Book, no_book, standing_of}
 use Rattle.margins.specs.Figures.{figures_of}
@@ -13,7 +14,7 @@ use Rattle.rules.specs.declared.call.Event.{Event}
 use Rattle.rules.specs.declared.call.Reply.{Reply}
 use Rattle.rules.specs.Stands.{Stand, books_in, cover_of}
 use Rattle.isolation.specs.Runs.{run, replies, opened, accepted}
-use Rattle.isolation.specs.Views.{constituent_trace, house_trace, observed}
+use Rattle.isolation.specs.Views.{constituent_trace, house_trace, observed, own_replies}
 
 pub record Agree (m l : Meaning) : Type 0 where
   pub sets : m.sets ≡ l.sets
@@ -59,17 +60,32 @@ pub record Covered (m : Meaning) (t : Stand) : Type 0 where
   pub cover : cover_of t ≡ sum_by lacking t.constituents
   pub carried : t.house.row.obligation ≡ own_margins m t + cover_of t
 
-pub record Isolation (m : Meaning) : Type 0 where
-  -- whatever the others do: a constituent that is told the same observes the same, and holds the same at the end
-  pub constituents : (month n j : ℕ) → suc j < n → (l : Meaning) → Agree m l → (es fs : List Event)
-      → constituent_trace m j (opened month n) es ≡ constituent_trace l j (opened month n) fs
-      → (observed m (suc j) (λ s. book_of s (suc j)) (opened month n) es ≡ observed l (suc j) (λ s. book_of s (suc j)) (opened month n) fs)
-      × (book_of (run m (opened month n) es) (suc j) ≡ book_of (run l (opened month n) fs) (suc j))
-  -- the house that is told the same observes the same, and holds, and is restricted, the same at the end
-  pub house : (month n : ℕ) → 1 ≤ n → (l : Meaning) → Agree m l → (es fs : List Event)
-      → house_trace m (opened month n) es ≡ house_trace l (opened month n) fs
-      → (observed m 0 (λ s. book_of s 0) (opened month n) es ≡ observed l 0 (λ s. book_of s 0) (opened month n) fs)
-      × (book_of (run m (opened month n) es) 0 ≡ book_of (run l (opened month n) fs) 0)
-  -- cash and lots are what was lodged less what was drawn
-  pub accounted : (month n : ℕ) → 1 ≤ n → (es : List Event) → Accounted n es (replies m (opened month n) es) (run m (opened month n) es)
-  pub covered : (month n : ℕ) → 1 ≤ n → (es : List Event) → Covered m (run m (opened month n) es)
+-- the list es from the stand s, on the model m, was answered os and led to t; another list fs from s, on the model l, leaves account i the same
+pub record Alike (m l : Meaning) (i : ℕ) (s : Stand) (es fs : List Event) (os : List Reply) (t : Stand) : Type 0 where
+  -- the answers to the events that concern it
+  pub answered : own_replies i es os ≡ own_replies i fs (replies l s fs)
+  -- its record and places after each of these events, beside the answer
+  pub observes : observed m i (λ x. book_of x i) s es ≡ observed l i (λ x. book_of x i) s fs
+  -- its record and places at the end
+  pub holds : book_of t i ≡ book_of (run l s fs) i
+
+-- the events es of a house that was opened with n accounts in a month were answered os, and led to t; fs is any other list from such an
+-- opening, on any model of equal meaning
+pub record Isolated (m : Meaning) (month n : ℕ) (es : List Event) (os : List Reply) (t : Stand) : Type 0 where
+  -- whatever the others do: a constituent that is told the same is answered the same, observes the same, and holds the same at the end
+  pub constituents : (j : ℕ) → suc j < n → (l : Meaning) → Agree m l → (fs : List Event)
+      → constituent_trace m j (opened month n) es ≡ constituent_trace l j (opened month n) fs → Alike m l (suc j) (opened month n) es fs os t
+  -- the house likewise; its restriction stands in its record
+  pub house : (l : Meaning) → Agree m l → (fs : List Event)
+      → house_trace m (opened month n) es ≡ house_trace l (opened month n) fs → Alike m l 0 (opened month n) es fs os t
+  -- after each event: cash and lots are what was lodged less what was drawn
+  pub accounted : (i : ℕ) → i ≤ length es → Accounted n (take i es) (take i os) (run m (opened month n) (take i es))
+  -- after each event: the cover is the sum of what the constituents lack, and the house's obligation carries it
+  pub covered : (i : ℕ) → i ≤ length es → Covered m (run m (opened month n) (take i es))
+  -- and both of t, where the list ends
+  pub accounted_end : Accounted n es os t
+  pub covered_end : Covered m t
+
+-- every list, as the rules answer it
+abbrev pub Isolation : Meaning → Type 0
+Isolation m = (month n : ℕ) → 1 ≤ n → (es : List Event) → Isolated m month n es (replies m (opened month n) es) (run m (opened month n) es)

@@ -7,7 +7,7 @@ ghost use Rattle.knots.specs.KnotTableLaws.{knot_table_lawful};
 ghost use Rattle.knots.specs.KnotLaws.{by_knots};
 
 use super::interpolation::change_of;
-use super::rows::{number, shock};
+use super::rows::{changes, number, shock};
 use models::laid::LaidOut;
 use models::layout::Layout;
 use models::numbers::Numbers;
@@ -60,5 +60,17 @@ impl Layout for KnotLayout {
             residual,
         );
         change_of(tick, moved)
+    }
+
+    fn changes(numbers: Numbers<'_>, set: u32, benchmark: u32, residual: u32, room: &mut [i32]) {
+        let tick = Self::number(numbers.ticks, set, benchmark, residual);
+        changes(
+            numbers.changes,
+            row(set, benchmark),
+            numbers.scenarios as usize,
+            tick,
+            residual,
+            room,
+        );
     }
 }

@@ -4,6 +4,7 @@
 use scriptrun::run::transcript;
 use std::io::{Read, Write};
 
+// The program `marginrun` has the same few lines. They share no function: that one bounds what it reads, and plays it otherwise.
 fn main(rt: HostRuntime) -> anyhow::Result<()> {
     let mut bytes = Vec::new(rt.alloc());
     let _ = rt.stdin().read_to_end(&mut bytes)?;

@@ -5,6 +5,7 @@ use eventrun::lines::transcript;
 use events::reader::next::MOST_BYTES;
 use std::io::{Read, Write};
 
+// The program `marginday` has the same few lines. They share no function: this one bounds what it reads, and plays it otherwise.
 fn main(rt: HostRuntime) -> anyhow::Result<()> {
     let heap = rt.alloc();
     let mut bytes = Vec::new(heap);

@@ -51,7 +51,8 @@ fn percent_of_level(level: u8) -> u128
     }
 }
 
-// What the higher of two levels charges.
+// What the higher of two levels charges. This share, the one of `volatility_margin` and the one of the step-up are each one
+// `div_ceil`: a function of amount, part and whole for them would be longer than what it stands for.
 pub fn concentration_charge(initial: u64, levels: Levels) -> u64
     ensures value { result ≡ concentration_of initial levels }
     ensures bound { result ≤ initial }

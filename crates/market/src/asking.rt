@@ -1,19 +1,20 @@
 // The questions of a market call, in order.
-ghost use Rattle.std.specs.Prelude.{◌≡◌};
+ghost use Rattle.std.specs.Prelude.{◌≡◌, ◌∷◌, [], nat_le};
 ghost use Rattle.refusals.specs.Refusals.{first_no};
+ghost use Rattle.refusals.specs.declared.refusal.Refusal.TheVariants.{NoFamily};
 ghost use Rattle.market.specs.States.{averages_keep, thresholds_keep};
-ghost use Rattle.market.specs.Calls.{quote_fits, returns_fit, slot_fits, month_fits, price_questions, averages_questions, thresholds_questions, check_questions, market_questions};
+ghost use Rattle.market.specs.Calls.{quote_fits, returns_fit, slot_fits, month_fits, price_questions, check_questions, market_questions};
 
 use super::call::{Check, MarketCall, Quote};
 use super::keeping::{averages_keep, thresholds_keep};
-use super::state::{Averages, FamilyState, MarketState, Thresholds};
+use super::state::{FamilyState, MarketState};
 use refusals::refusal::{Refusal, ask};
 use tables::codes::Family;
 
 fn quote_fits(quote: Quote) -> bool
     ensures { result ≡ quote_fits quote }
 {
-    1 <= quote.price && quote.price <= 30_000 && quote.haircut <= 100 && quote.listed <= 1
+    (1..=30_000).contains(&quote.price) && quote.haircut <= 100 && quote.listed <= 1
 }
 
 fn ask_price(quote: Quote) -> Result<(), Refusal>
@@ -23,18 +24,12 @@ fn ask_price(quote: Quote) -> Result<(), Refusal>
     ask(quote_fits(quote), Refusal::WrongPrice)
 }
 
-fn ask_averages(family: u32, averages: Averages) -> Result<(), Refusal>
-    ensures { result ≡ first_no (averages_questions family averages) }
+// What is published for a family: its averages, or its thresholds.
+fn ask_published(family: u32, keeps: bool, refusal: Refusal) -> Result<(), Refusal>
+    ensures { result ≡ first_no ((nat_le family 1, NoFamily) ∷ (keeps, refusal) ∷ []) }
 {
     ask(family <= 1, Refusal::NoFamily)?;
-    ask(averages_keep(Some(averages)), Refusal::WrongAverages)
-}
-
-fn ask_thresholds(family: u32, thresholds: Thresholds) -> Result<(), Refusal>
-    ensures { result ≡ first_no (thresholds_questions family thresholds) }
-{
-    ask(family <= 1, Refusal::NoFamily)?;
-    ask(thresholds_keep(Some(thresholds)), Refusal::WrongThresholds)
+    ask(keeps, refusal)
 }
 
 fn returns_fit(returns: [u32; 5]) -> bool
@@ -47,7 +42,7 @@ fn returns_fit(returns: [u32; 5]) -> bool
 fn slot_fits(family: &FamilyState, slot: u32) -> bool
     ensures { result ≡ slot_fits family.now slot }
 {
-    1 <= slot && slot <= 4 && (family.slot as u32) < slot
+    (1..=4).contains(&slot) && (family.slot as u32) < slot
 }
 
 fn ask_check(state: &MarketState, check: Check) -> Result<(), Refusal>
@@ -74,8 +69,20 @@ pub(crate) fn ask_market(state: &MarketState, sets: u32, call: MarketCall) -> Re
         MarketCall::Set(set) => ask(set < sets, Refusal::NoSet),
         MarketCall::Price(quote) => ask_price(quote),
         MarketCall::StepUp(percent) => ask(percent <= 100, Refusal::WrongStepUp),
-        MarketCall::Averages(family, averages) => ask_averages(family, averages),
-        MarketCall::Thresholds(family, thresholds) => ask_thresholds(family, thresholds),
+        MarketCall::Averages(family, averages) => {
+            ask_published(
+                family,
+                averages_keep(Some(averages)),
+                Refusal::WrongAverages,
+            )
+        }
+        MarketCall::Thresholds(family, thresholds) => {
+            ask_published(
+                family,
+                thresholds_keep(Some(thresholds)),
+                Refusal::WrongThresholds,
+            )
+        }
         MarketCall::Volatility(check) => ask_check(state, check),
         MarketCall::Close => Ok(()),
         MarketCall::Month(month) => ask(month_fits(state, month), Refusal::WrongMonth),

@@ -9,7 +9,7 @@ use tables::limits::securities_keep;
 fn average_keeps(average: u64) -> bool
     ensures { result ≡ average_keeps average }
 {
-    1 <= average && average <= 10_000_000_000_000_000
+    (1..=10_000_000_000_000_000).contains(&average)
 }
 
 pub(crate) fn averages_keep(averages: Option<Averages>) -> bool

@@ -46,8 +46,5 @@ pub fn check_tenths(thresholds: &Thresholds, returns: [u32; 5]) -> u32
     ensures value { result ≡ charged thresholds.now.triggers returns }
     ensures bound { result ≤ 1000 }
 {
-    match highest_ratio(thresholds, returns) {
-        Some(ratio) => volatility_tenths(ratio),
-        None => 0,
-    }
+    highest_ratio(thresholds, returns).map_or(0, volatility_tenths)
 }

@@ -1,14 +1,14 @@
 -- What is known of a part of a text, word by word.
-use Rattle.std.proofs.Common.{◌≡◌, ℕ, ◌*◌, ◌≤◌, Bool, true, false, cond, leb, List, map, ℤ, Some, None, Decides, Result, sym, ap, ◌∙◌, subst, MatchResult}
+use Rattle.std.proofs.Common.{◌≡◌, ℕ, ◌≤◌, Bool, true, false, cond, leb, List, map, ℤ, Some, None, Decides, Result, sym, ap, ◌∙◌, subst, MatchResult}
 use Rattle.std.proofs.lemmas.Bool.Decides.{same_from_decides, Decides-and}
 use Rattle.std.proofs.lemmas.Bool.{leb-true, le-leb}
 use Rattle.models.specs.Sound.{Counts}
 use Rattle.models.specs.declared.refusal.MakingRefusal.TheVariants.{WrongCounts, WrongLengths}
 use Rattle.scan.specs.Number.{number_of}
 use Rattle.scan.specs.Words.{word_of, rest_of, after_number}
-use Rattle.modelfile.specs.Kinds.{kind_of, cells_of, fits}
+use Rattle.modelfile.specs.Kinds.{kind_of, fits}
 use Rattle.modelfile.specs.Taken.{taken, left, as_size, as_change}
-use Rattle.modelfile.specs.Parts.{Part, stopped, numbers, refused, malformed, counts_fit, followed, followed_by, tables_of, sized, counted, count_of, named_part, part_of}
+use Rattle.modelfile.specs.Parts.{Part, stopped, numbers, refused, malformed, counts_fit, followed, followed_by, tables_of, tables_after, sized, counted, count_of, named_part, part_of}
 use Rattle.modelfile.specs.Texts.{UnlessMemory}
 use Rattle.modelfile.specs.declared.kind.Kind.{Kind}
 use Rattle.owned.specs.Owned.{owned}
@@ -68,11 +68,11 @@ fits_are s n r d =
     same_from_decides (counts_fit s n) r (fit_decides s n)
     ((λ t. let q = d.0 t in (q.0, (q.1, (q.2, q.3)))), λ q. d.1 (q.0, q.1.0, q.1.1.0, q.1.1.1))
 
-pub counts_good : (k : Kind) (s n : ℕ) (bs : List ℕ) → counts_fit s n ≡ true → sized k s n bs ≡ tables_of k s n (cells_of k * s) (cells_of k * s * n) bs
-counts_good k s n bs e = ap (λ t. cond t (tables_of k s n (cells_of k * s) (cells_of k * s * n) bs) (stopped (refused WrongCounts))) e
+pub counts_good : (k : Kind) (s n : ℕ) (bs : List ℕ) → counts_fit s n ≡ true → sized k s n bs ≡ tables_after k s n bs
+counts_good k s n bs e = ap (λ t. cond t (tables_after k s n bs) (stopped (refused WrongCounts))) e
 
 pub counts_wrong : (k : Kind) (s n : ℕ) (bs : List ℕ) → counts_fit s n ≡ false → sized k s n bs ≡ stopped (refused WrongCounts)
-counts_wrong k s n bs e = ap (λ t. cond t (tables_of k s n (cells_of k * s) (cells_of k * s * n) bs) (stopped (refused WrongCounts))) e
+counts_wrong k s n bs e = ap (λ t. cond t (tables_after k s n bs) (stopped (refused WrongCounts))) e
 
 -- what is read of a part is read of the same part
 pub read_same : (p q : Part) (r : Result NamedNumbers LoadRefusal) (rest : List ℕ) → p ≡ q

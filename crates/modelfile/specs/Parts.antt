@@ -49,8 +49,12 @@ tables_of k s n size volume bs =
       changes = map as_change (taken volume (left size (left size bs)));
     }) (left volume (left size (left size bs))))
 
+-- the tables of a model of s sets and n scenarios
+abbrev pub tables_after : Kind → ℕ → ℕ → List ℕ → Part
+tables_after k s n bs = tables_of k s n (cells_of k * s) (cells_of k * s * n) bs
+
 abbrev pub sized : Kind → ℕ → ℕ → List ℕ → Part
-sized k s n bs = cond (counts_fit s n) (tables_of k s n (cells_of k * s) (cells_of k * s * n) bs) (stopped (refused WrongCounts))
+sized k s n bs = cond (counts_fit s n) (tables_after k s n bs) (stopped (refused WrongCounts))
 
 abbrev pub counted : Kind → Option ℕ → Option ℕ → List ℕ → Part
 counted k None n bs = stopped malformed

@@ -10,7 +10,8 @@ use owned::owned_model::OwnedNumbers;
 use std::alloc::{AllocError, Global};
 use std::marker::PhantomData;
 
-// The table model of 1 set and 20 scenarios in which every number is 0.
+// The table model of 1 set and 20 scenarios in which every number is 0. It shares no making with the model of the worked figures of
+// the program `statement`, which has other constants: the contract here is a definition.
 pub fn default_model(heap: Global) -> Result<AnyModel, AllocError>
     ensures { IfOk result (λ m. any_of m ≡ zero_table) }
 {

@@ -1,7 +1,9 @@
 // Models out of texts.
-ghost use Rattle.std.specs.Prelude.{◌≡◌, MatchResult};
+ghost use Rattle.std.specs.Prelude.{◌≡◌, ◌<◌, length, MatchResult};
 ghost use Rattle.owned.specs.Any.{single_of, any_of};
 ghost use Rattle.owned.specs.Owned.{owned};
+ghost use Rattle.scan.specs.Words.{word_of};
+ghost use Rattle.modelfile.specs.declared.refusal.LoadRefusal.TheVariants.{Malformed};
 ghost use Rattle.modelfile.specs.Kinds.{meaning_of, SoundOf, RefusedOf};
 ghost use Rattle.modelfile.specs.Parts.{means, part_of, Makes, EndsWith};
 ghost use Rattle.modelfile.specs.Texts.{One, Second, Two, Gives, UnlessMemory};
@@ -13,7 +15,7 @@ use super::refusal::LoadRefusal;
 use models::refusal::MakingRefusal;
 use owned::any::{AnyModel, SingleModel};
 use owned::making;
-use scan::scan::{Scan, same};
+use scan::scan::Scan;
 use std::alloc::Global;
 
 // The model of numbers that were read, or why they make none.
@@ -35,16 +37,24 @@ fn load_single(heap: Global, scan: &mut Scan) -> Result<SingleModel, LoadRefusal
     Ok(make(found)?)
 }
 
+// Asks that no word is left.
+fn end_of_text(scan: &mut Scan) -> Result<(), LoadRefusal>
+    ensures { MatchResult result (λ _. length (word_of scan.old.rest.now) ≡ 0) (λ e. (e ≡ Malformed) × (0 < length (word_of scan.old.rest.now))) }
+{
+    if scan.word().is_empty() {
+        Ok(())
+    } else {
+        Err(LoadRefusal::Malformed)
+    }
+}
+
 // The model of a text that has one.
 fn load_one(heap: Global, scan: &mut Scan) -> Result<AnyModel, LoadRefusal>
     ensures { MatchResult result (λ m. One scan.old.rest.now (means (any_of m))) (λ e. UnlessMemory e (λ a. One scan.old.rest.now a)) }
 {
     let model = load_single(heap, scan)?;
-    if scan.word().is_empty() {
-        Ok(AnyModel::One(model))
-    } else {
-        Err(LoadRefusal::Malformed)
-    }
+    end_of_text(scan)?;
+    Ok(AnyModel::One(model))
 }
 
 // The model of a text that has one more after `first`.
@@ -53,11 +63,8 @@ fn load_second(heap: Global, scan: &mut Scan, first: SingleModel) -> Result<AnyM
 {
     let second = load_single(heap, scan)?;
     let joined = making::join(first, second)?;
-    if scan.word().is_empty() {
-        Ok(AnyModel::Two(joined))
-    } else {
-        Err(LoadRefusal::Malformed)
-    }
+    end_of_text(scan)?;
+    Ok(AnyModel::Two(joined))
 }
 
 // The model of a text that has two.
@@ -74,7 +81,7 @@ pub fn load(heap: Global, text: &[u8]) -> Result<AnyModel, LoadRefusal>
 {
     let mut scan = Scan::new(text);
     let mut ahead = scan;
-    if same(ahead.word(), "joined".as_bytes()) {
+    if ahead.word() == "joined".as_bytes() {
         load_two(heap, &mut ahead)
     } else {
         load_one(heap, &mut scan)

@@ -1,5 +1,6 @@
 // The names of models.
 ghost use Rattle.std.specs.Prelude.{◌≡◌, ◌≤◌};
+ghost use Rattle.std.specs.Result.{result_ok};
 ghost use Rattle.modelfile.specs.Kinds.{kind_of, cells_of, fits};
 
 use super::kind::Kind;
@@ -7,14 +8,21 @@ use knots::model::KnotLayout;
 use models::layout::Layout;
 use models::table::TableLayout;
 
-// The kind that a word names.
-pub fn named(word: &[u8]) -> Option<Kind>
-    ensures { result ≡ kind_of word.now }
-{
-    match word {
-        b"table" => Some(Kind::Table),
-        b"knot" => Some(Kind::Knots),
-        _ => None,
+// A word that names no kind.
+#[derive(Clone, Copy, Debug, PartialEq, Eq)]
+pub struct UnknownName;
+
+impl TryFrom<&[u8]> for Kind {
+    type Error = UnknownName;
+
+    ghost try_from_gives = { λ word r. result_ok r ≡ kind_of word.now };
+
+    fn try_from(word: &[u8]) -> Result<Kind, UnknownName> {
+        match word {
+            b"table" => Ok(Kind::Table),
+            b"knot" => Ok(Kind::Knots),
+            _ => Err(UnknownName),
+        }
     }
 }
 
@@ -33,5 +41,5 @@ pub fn cells(kind: Kind) -> u32
 pub fn may_follow(word: &[u8]) -> bool
     ensures { result ≡ fits word.now }
 {
-    word.is_empty() || named(word).is_some()
+    word.is_empty() || Kind::try_from(word).is_ok()
 }

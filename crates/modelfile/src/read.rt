@@ -6,11 +6,11 @@ ghost use Rattle.scan.specs.Number.{number_of};
 ghost use Rattle.scan.specs.Words.{word_of, after_number};
 ghost use Rattle.modelfile.specs.Kinds.{cells_of};
 ghost use Rattle.modelfile.specs.Taken.{taken, left, as_size, as_change, size_by};
-ghost use Rattle.modelfile.specs.Parts.{stopped, numbers, followed_by, tables_of, part_of};
+ghost use Rattle.modelfile.specs.Parts.{stopped, numbers, followed_by, tables_after, part_of};
 ghost use Rattle.modelfile.specs.Texts.{UnlessMemory};
 
 use super::kind::Kind;
-use super::names::{cells, may_follow, named};
+use super::names::{cells, may_follow};
 use super::numbers::NamedNumbers;
 use super::refusal::LoadRefusal;
 use models::check::counts_fit;
@@ -94,17 +94,11 @@ impl Head {
 
 // The kind and counts of the model that stands first in a text, or why there are none.
 fn read_head(scan: &mut Scan) -> Result<Head, LoadRefusal>
-    ensures { MatchResult result (λ h. part_of scan.old.rest.now ≡ tables_of h.kind h.sets h.scenarios (cells_of h.kind * h.sets) (cells_of h.kind * h.sets * h.scenarios) scan.new.rest.now) (λ e. UnlessMemory e (λ a. part_of scan.old.rest.now ≡ stopped a)) }
+    ensures { MatchResult result (λ h. part_of scan.old.rest.now ≡ tables_after h.kind h.sets h.scenarios scan.new.rest.now) (λ e. UnlessMemory e (λ a. part_of scan.old.rest.now ≡ stopped a)) }
 {
-    let Some(kind) = named(scan.word()) else {
-        return Err(LoadRefusal::Malformed);
-    };
-    let Some(sets) = next_count(scan) else {
-        return Err(LoadRefusal::Malformed);
-    };
-    let Some(scenarios) = next_count(scan) else {
-        return Err(LoadRefusal::Malformed);
-    };
+    let kind = Kind::try_from(scan.word())?;
+    let sets = next_count(scan).ok_or(LoadRefusal::Malformed)?;
+    let scenarios = next_count(scan).ok_or(LoadRefusal::Malformed)?;
     if !counts_fit(sets, scenarios) {
         return Err(LoadRefusal::Making(MakingRefusal::WrongCounts));
     }
@@ -117,7 +111,7 @@ fn read_head(scan: &mut Scan) -> Result<Head, LoadRefusal>
 
 // The three tables after a head, which may be too short.
 fn next_tables(heap: Global, scan: &mut Scan, head: Head) -> Result<OwnedNumbers, AllocError>
-    ensures { IfOk result (λ n. tables_of head.kind head.sets head.scenarios (cells_of head.kind * head.sets) (cells_of head.kind * head.sets * head.scenarios) scan.old.rest.now ≡ followed_by scan.new.rest.now (numbers head.kind (owned n) scan.new.rest.now)) }
+    ensures { IfOk result (λ n. tables_after head.kind head.sets head.scenarios scan.old.rest.now ≡ followed_by scan.new.rest.now (numbers head.kind (owned n) scan.new.rest.now)) }
 {
     let (size, volume) = head.sizes();
     let rates = next_numbers(heap, scan, size)?;
@@ -134,7 +128,7 @@ fn next_tables(heap: Global, scan: &mut Scan, head: Head) -> Result<OwnedNumbers
 
 // The same, if what follows them may stand there.
 fn read_tables(heap: Global, scan: &mut Scan, head: Head) -> Result<NamedNumbers, LoadRefusal>
-    ensures { MatchResult result (λ n. tables_of head.kind head.sets head.scenarios (cells_of head.kind * head.sets) (cells_of head.kind * head.sets * head.scenarios) scan.old.rest.now ≡ numbers n.kind (owned n.numbers) scan.new.rest.now) (λ e. UnlessMemory e (λ a. tables_of head.kind head.sets head.scenarios (cells_of head.kind * head.sets) (cells_of head.kind * head.sets * head.scenarios) scan.old.rest.now ≡ stopped a)) }
+    ensures { MatchResult result (λ n. tables_after head.kind head.sets head.scenarios scan.old.rest.now ≡ numbers n.kind (owned n.numbers) scan.new.rest.now) (λ e. UnlessMemory e (λ a. tables_after head.kind head.sets head.scenarios scan.old.rest.now ≡ stopped a)) }
 {
     let numbers = next_tables(heap, scan, head)?;
     let mut ahead = *scan;

@@ -1,7 +1,8 @@
 // Why a text gives no model.
 ghost use Rattle.std.specs.Prelude.{◌≡◌};
-ghost use Rattle.modelfile.specs.declared.refusal.LoadRefusal.TheVariants.{Making, Memory};
+ghost use Rattle.modelfile.specs.declared.refusal.LoadRefusal.TheVariants.{Making, Malformed, Memory};
 
+use super::names::UnknownName;
 use models::refusal::MakingRefusal;
 use std::alloc::AllocError;
 
@@ -20,6 +21,14 @@ impl From<MakingRefusal> for LoadRefusal {
 
     fn from(refusal: MakingRefusal) -> LoadRefusal {
         LoadRefusal::Making(refusal)
+    }
+}
+
+impl From<UnknownName> for LoadRefusal {
+    ghost from_gives = { λ _ r. r ≡ Malformed };
+
+    fn from(_name: UnknownName) -> LoadRefusal {
+        LoadRefusal::Malformed
     }
 }
 

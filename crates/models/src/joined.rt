@@ -63,4 +63,18 @@ impl<F: MarginModel, S: MarginModel> MarginModel for Joined<F, S> {
                 .change(set, benchmark, residual, scenario - split)
         }
     }
+
+    fn changes(&self, set: u32, benchmark: u32, residual: u32, room: &mut [i32]) {
+        if set >= self.sets() {
+            room.fill(0);
+            return;
+        }
+        let count = room.len().min(self.scenarios() as usize);
+        let split = count.min(self.first.scenarios() as usize);
+        let (within, past) = room.split_at_mut(count);
+        let (first, second) = within.split_at_mut(split);
+        self.first.changes(set, benchmark, residual, first);
+        self.second.changes(set, benchmark, residual, second);
+        past.fill(0);
+    }
 }

@@ -91,4 +91,15 @@ impl<N: Lend, L: Layout> MarginModel for LaidOut<N, L> {
             0
         }
     }
+
+    fn changes(&self, set: u32, benchmark: u32, residual: u32, room: &mut [i32]) {
+        let numbers = self.sound.numbers.lend();
+        if !inside(numbers.sets, set, benchmark, residual) {
+            room.fill(0);
+            return;
+        }
+        let count = room.len().min(numbers.scenarios as usize);
+        room[count..].fill(0);
+        L::changes(numbers, set, benchmark, residual, &mut room[..count]);
+    }
 }

@@ -1,5 +1,5 @@
 // How the numbers of a model lie in its tables.
-ghost use Rattle.std.specs.Prelude.{◌≡◌, ℕ, ◌+◌, ◌*◌, ◌<◌, ◌≤◌, List, length, ℤ, slice_index};
+ghost use Rattle.std.specs.Prelude.{◌≡◌, ℕ, ◌+◌, ◌*◌, ◌<◌, ◌≤◌, List, length, ℤ, pos, slice_index, slice_index_or};
 ghost use Rattle.models.specs.Meaning.{Meaning, Lawful};
 ghost use Rattle.models.specs.Laid.{laid_out};
 ghost use Rattle.models.specs.Sound.{Sound};
@@ -8,6 +8,7 @@ ghost use Rattle.models.specs.Lent.{lent};
 
 use super::numbers::Numbers;
 
+// Set, benchmark and residual stay three numbers, as in `MarginModel`: a value of them would be made at each call and taken apart.
 pub trait Layout: Copy {
     // How many rates, tick values, and changes in one scenario, a set has.
     ghost CELLS: { ℕ };
@@ -46,4 +47,11 @@ pub trait Layout: Copy {
         requires cell { (set < numbers.sets) × (benchmark < 4) × (residual ≤ 120) }
         requires run { scenario < numbers.scenarios }
         ensures { result ≡ change_at (lent numbers.entry) set benchmark residual scenario };
+
+    // The changes in the scenarios from the first on, no more than there are.
+    fn changes(numbers: Numbers<'_>, set: u32, benchmark: u32, residual: u32, room: &mut [i32])
+        requires sound { Sound CELLS LIMIT (lent numbers) }
+        requires cell { (set < numbers.sets) × (benchmark < 4) × (residual ≤ 120) }
+        requires run { length room.old ≤ numbers.scenarios }
+        ensures { (j : ℕ) → j < length room.old → slice_index_or room.new j (pos 0) ≡ change_at (lent numbers.entry) set benchmark residual j };
 }

@@ -1,6 +1,6 @@
 // What every margin model answers. Asked outside of its counts, the 4 benchmarks or the residuals 0 to
 // 120, it answers 0.
-ghost use Rattle.std.specs.Prelude.{◌≡◌};
+ghost use Rattle.std.specs.Prelude.{◌≡◌, ℕ, ◌<◌, length, pos, slice_index_or};
 ghost use Rattle.models.specs.Meaning.{Meaning, Lawful, within};
 
 // Set, benchmark and residual stay three parameters: every make passes them on or asks one of them, so a
@@ -31,6 +31,10 @@ pub trait MarginModel {
     // What one lakh of a pay-fixed swap gains in a scenario, in paise.
     fn change(&self, set: u32, benchmark: u32, residual: u32, scenario: u32) -> i32
         ensures { result ≡ (meaning self.now).change set benchmark residual scenario };
+
+    // The changes in the scenarios from the first on, as many as there is room for.
+    fn changes(&self, set: u32, benchmark: u32, residual: u32, room: &mut [i32])
+        ensures { (j : ℕ) → j < length room.old → slice_index_or room.new j (pos 0) ≡ (meaning self.now).change set benchmark residual j };
 }
 
 // A model that is borrowed is a model.
@@ -57,6 +61,10 @@ impl<M: MarginModel> MarginModel for &M {
 
     fn change(&self, set: u32, benchmark: u32, residual: u32, scenario: u32) -> i32 {
         (*self).change(set, benchmark, residual, scenario)
+    }
+
+    fn changes(&self, set: u32, benchmark: u32, residual: u32, room: &mut [i32]) {
+        (*self).changes(set, benchmark, residual, room)
     }
 }
 

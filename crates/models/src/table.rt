@@ -48,4 +48,9 @@ impl Layout for TableLayout {
         numbers.changes[place(set, benchmark, residual) * numbers.scenarios as usize
             + scenario as usize]
     }
+
+    fn changes(numbers: Numbers<'_>, set: u32, benchmark: u32, residual: u32, room: &mut [i32]) {
+        let first = place(set, benchmark, residual) * numbers.scenarios as usize;
+        room.copy_from_slice(&numbers.changes[first..first + room.len()]);
+    }
 }

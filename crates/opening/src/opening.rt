@@ -91,7 +91,7 @@ fn ask_opening(
 ) -> Result<(), Refusal>
     ensures { result ≡ first_no (opening_questions accounts month records.now trades.now) }
 {
-    ask(1 <= accounts && accounts <= 32, Refusal::WrongAccounts)?;
+    ask((1..=32).contains(&accounts), Refusal::WrongAccounts)?;
     ask(month <= 1199, Refusal::WrongOpeningMonth)?;
     ask(
         records.len() == accounts as usize && trades.len() == 64 * accounts as usize,

@@ -72,7 +72,7 @@ side_size : (s : Side) (z : ℤ) → nat_abs (negated_for Pay s z) ≡ nat_abs z
 side_size Pay z = size_neg z
 side_size Receive z = refl
 
-leg_most : (m : Meaning) (d : Day) (j : ℕ) (t : TradeRow) → Lawful m → TradeFits t → nat_abs (leg_of m d j t) ≤ 2000000000000
+pub leg_most : (m : Meaning) (d : Day) (j : ℕ) (t : TradeRow) → Lawful m → TradeFits t → nat_abs (leg_of m d j t) ≤ 2000000000000
 leg_most m d j t law fit =
     let z = m.change d.set t.benchmark (residual_of d t) j in
     let e = side_size (side_of t.side) (pos t.notional *ℤ z) in

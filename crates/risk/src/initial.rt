@@ -11,7 +11,7 @@ use super::trade::Trade;
 use market::day::Day;
 use models::model::MarginModel;
 use tables::codes::Side;
-use tables::row::NO_TRADE;
+use tables::row::{NO_TRADE, TradeRow};
 use tables::standing::StandingTrades;
 
 // The residuals at which the first two bands end, and what each band's lakh counts, in paise.
@@ -20,24 +20,30 @@ const BAND_ENDS: [u32; 2] = [36, 60];
 const BAND_RATES: [i32; 3] = [50_000, 100_000, 175_000];
 
 impl<'a, M: MarginModel> Quotes<'a, M> {
-    // The value at risk of the trades of a group.
-    fn group_risk(&self, grouping: Grouping, key: u32, trades: StandingTrades) -> u64
+    // The value at risk of the trades of a group, which are gathered in `room`.
+    fn group_risk(
+        &self,
+        grouping: Grouping,
+        key: u32,
+        trades: StandingTrades,
+        room: &mut [TradeRow; 64],
+    ) -> u64
         ensures { result ≡ var_of (M.meaning self.now.model.now) self.now.day (group_trades grouping self.now.day key trades.entry.trades.now) }
     {
-        let mut room = [NO_TRADE; 64];
-        let group = gather(grouping, self.day, key, trades, &mut room);
+        let group = gather(grouping, self.day, key, trades, room);
         self.value_at_risk(group)
     }
 
-    // The values at risk of the groups, added up.
+    // The values at risk of the groups, added up. They share a room, which is made once.
     #[tactic(auto, unfolding(crate::specs::Initial::grouped_risk, tables::specs::Numbers::sum_below))]
     pub(crate) fn sum_group_risks(&self, grouping: Grouping, trades: StandingTrades) -> u64
         ensures value { result ≡ grouped_risk (M.meaning self.now.model.now) self.now.day grouping trades.entry.trades.now }
         ensures bound { result ≤ 2000000000000 * length trades.entry.trades.now }
     {
+        let mut room = [NO_TRADE; 64];
         let mut sum = 0;
         for key in 0..grouping.groups() {
-            sum += self.group_risk(grouping, key, trades);
+            sum += self.group_risk(grouping, key, trades, &mut room);
         }
         sum
     }
@@ -82,7 +88,7 @@ pub(crate) fn minimum_margin(day: Day, trades: StandingTrades) -> u64
     sum.unsigned_abs()
 }
 
-// A margin, with the step-up in per cent.
+// A margin, with the step-up in per cent: a share rounded up, as the charges of `margins`, each one `div_ceil`.
 pub(crate) fn step_up(percent: u32, base: u64) -> u64
     requires { (percent ≤ 100) × (base ≤ 1000000000000000) }
     ensures value { result ≡ stepped_up percent base }

@@ -20,23 +20,19 @@ fn lowest_of_tail(losses: &[i64], places: &mut [i64]) -> i64
 }
 
 impl<'a, M: MarginModel> Quotes<'a, M> {
-    // What a trade loses in a scenario.
-    fn leg(&self, scenario: u32, trade: Trade) -> i64
-        ensures value { result ≡ leg_of (M.meaning self.now.model.now) self.now.day scenario trade.entry.row.now }
-        ensures bound { unsigned_abs result ≤ 2000000000000 }
-    {
-        let change = self.change(trade.row, scenario);
-        trade.flow(Side::Pay, change)
-    }
-
-    // Adds what a trade loses in each scenario.
+    // Adds what a trade loses in each scenario. By the index of `enumerate`, since of a `zip` with an `iter_mut` a proof does not
+    // learn what was written.
     fn add_legs(&self, trade: Trade, room: &mut [i64])
         requires room { length room.old ≡ (M.meaning self.now.model.now).scenarios }
         requires small { (j : ℕ) → unsigned_abs (slice_index_or room.old j (pos 0)) ≤ 126000000000000 }
         ensures { (j : ℕ) → j < length room.old → slice_index_or room.new j (pos 0) ≡ slice_index_or room.old j (pos 0) +ℤ leg_of (M.meaning self.now.model.now) self.now.day j trade.entry.row.now }
     {
+        let mut space = [0i32; 1000];
+        let changes = &mut space[..room.len()];
+        self.changes(trade.row, changes);
+        let notional = trade.flow(Side::Pay, 1);
         for (scenario, loss) in room.iter_mut().enumerate() {
-            *loss += self.leg(scenario as u32, trade);
+            *loss += notional * changes[scenario] as i64;
         }
     }
 

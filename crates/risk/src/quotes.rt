@@ -1,5 +1,5 @@
 // A model on a day.
-ghost use Rattle.std.specs.Prelude.{◌≡◌};
+ghost use Rattle.std.specs.Prelude.{◌≡◌, ℕ, ◌<◌, length, pos, slice_index_or};
 ghost use Rattle.market.specs.Days.{residual_of};
 
 use market::day::Day;
@@ -39,5 +39,14 @@ impl<'a, M: MarginModel> Quotes<'a, M> {
         let residual = self.day.residual(trade);
         self.model
             .change(self.day.set, trade.benchmark as u32, residual, scenario)
+    }
+
+    // The same in the scenarios from the first on, as many as there is room for.
+    pub fn changes(&self, trade: &TradeRow, room: &mut [i32])
+        ensures { (j : ℕ) → j < length room.old → slice_index_or room.new j (pos 0) ≡ (M.meaning self.now.model.now).change self.now.day.set trade.now.benchmark (residual_of self.now.day trade.now) j }
+    {
+        let residual = self.day.residual(trade);
+        self.model
+            .changes(self.day.set, trade.benchmark as u32, residual, room);
     }
 }

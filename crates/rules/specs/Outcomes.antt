@@ -7,15 +7,15 @@ use Rattle.std.specs.Prelude.{◌≡◌, ℕ, suc, ◌+◌, ◌<◌, Bool, true,
 use Rattle.models.specs.Meaning.{Meaning}
 use Rattle.tables.specs.declared.row.AccountRow.{AccountRow}
 use Rattle.tables.specs.declared.row.TradeRow.{TradeRow}
-use Rattle.tables.specs.Books.{Book, no_book, no_row, places_at}
+use Rattle.tables.specs.Books.{Book, book, no_book, no_row, places_at}
 use Rattle.tables.specs.Limits.{tables_keep}
 use Rattle.market.specs.declared.state.MarketState.{MarketState}
 use Rattle.rules.specs.declared.call.AccountCall.{AccountCall}
 use Rattle.rules.specs.declared.call.Answer.{Answer}
 use Rattle.refusals.specs.declared.refusal.Refusal.TheVariants.{Tables, NoAccount}
 use Rattle.refusals.specs.Refusals.{number_of}
-use Rattle.rules.specs.Settling.{row_reflagged}
-use Rattle.rules.specs.Stands.{Stand, Verdict, refused, granted, standing, books_in, rows_of, trades_of, verdict, after_account, AtRest}
+use Rattle.rules.specs.Settling.{house_settled, row_reflagged}
+use Rattle.rules.specs.Stands.{Stand, Verdict, refused, granted, standing, books_in, rows_of, trades_of, cover_of, verdict, after_account, AtRest}
 
 abbrev pub restriction_of : AccountRow → ℕ
 restriction_of r = (if r.own then 1 else 0) + (if r.second then 2 else 0)
@@ -53,15 +53,22 @@ account_outcome m k n rs ts i c =
 abbrev pub left_alone : Bool → Bool → AccountRow → AccountRow
 left_alone accepted restricted r = if accepted then row_reflagged restricted r else r
 
--- every constituent but account i keeps its places, and its record but for the second flag
-abbrev pub OthersLeft : ℕ → List AccountRow → List AccountRow → List TradeRow → List TradeRow → ℕ → Answer → Type 0
-OthersLeft n rs us ts vs i a =
-    (j : ℕ) → suc j < n → (suc j ≢ i)
-    → (slice_index_or us (suc j) no_row ≡ left_alone (a.number == 0) (slice_index_or us 0 no_row).own (slice_index_or rs (suc j) no_row)) × (places_at vs (suc j) ≡ places_at ts (suc j))
+-- what a call on a constituent leaves of the house's record: settled at the cover after it, so that cash, lots and trades stay
+abbrev pub house_left : Meaning → MarketState → Bool → ℕ → Book → AccountRow
+house_left m k accepted cover b = if accepted then (house_settled m k cover b).row else b.row
+
+pub record OthersLeft (m : Meaning) (k : MarketState) (n : ℕ) (rs us : List AccountRow) (ts vs : List TradeRow) (i : ℕ) (a : Answer) : Type 0 where
+  -- every constituent but account i keeps its places, and its record but for the second flag
+  pub constituents : (j : ℕ) → suc j < n → (suc j ≢ i)
+      → (slice_index_or us (suc j) no_row ≡ left_alone (a.number == 0) (slice_index_or us 0 no_row).own (slice_index_or rs (suc j) no_row)) × (places_at vs (suc j) ≡ places_at ts (suc j))
+  -- the house keeps its places, and is settled at the cover, unless account i is the house
+  pub house : (0 ≢ i)
+      → (slice_index_or us 0 no_row ≡ house_left m k (a.number == 0) (cover_of (standing k us vs)) (book (slice_index_or rs 0 no_row) (places_at ts 0))) × (places_at vs 0 ≡ places_at ts 0)
 
 -- an account call, answered: the answer and both tables after are those of the outcome; the tables keep their limits as before,
 -- and rest after an accepted call; they hold the stand that the rules make of the stand before;
--- and every constituent that the call does not name keeps its places, and its record but for the second flag
+-- and every account that the call does not name keeps its places, a constituent its record but for the second flag, and the
+-- house is settled at the cover
 pub record Answered (m : Meaning) (k : MarketState) (n : ℕ) (rs us : List AccountRow) (ts vs : List TradeRow) (i : ℕ) (c : AccountCall) (a : Answer) : Type 0 where
   pub answer : a ≡ (account_outcome m k n rs ts i c).answer
   pub rows : us ≡ (account_outcome m k n rs ts i c).rows
@@ -69,4 +76,4 @@ pub record Answered (m : Meaning) (k : MarketState) (n : ℕ) (rs us : List Acco
   pub keeps : tables_keep n us vs ≡ tables_keep n rs ts
   pub rests : a.number ≡ 0 → AtRest m k us vs
   pub stands : tables_keep n rs ts ≡ true → standing k us vs ≡ after_account m (standing k rs ts) i c
-  pub others : OthersLeft n rs us ts vs i a
+  pub others : OthersLeft m k n rs us ts vs i a

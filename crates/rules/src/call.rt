@@ -1,5 +1,6 @@
 // The calls on a house, and what they answer.
-ghost use Rattle.std.specs.Prelude.{Some};
+ghost use Rattle.std.specs.Prelude.{◌≡◌, Some};
+ghost use Rattle.rules.specs.Outcomes.{blank_answer};
 
 use market::call::MarketCall;
 use std::fmt;
@@ -69,6 +70,21 @@ pub enum Reply {
 pub enum Event {
     RightTables(Call),
     WrongTables(Call),
+}
+
+impl Answer {
+    // An answer without figures.
+    pub fn blank(number: u8) -> Answer
+        ensures { result ≡ blank_answer number }
+    {
+        Answer {
+            number,
+            restriction: 0,
+            obligation: 0,
+            available: 0,
+            shortfall: 0,
+        }
+    }
 }
 
 impl fmt::Display for Answer {

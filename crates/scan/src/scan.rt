@@ -1,8 +1,7 @@
 // The words of a text, one after the other.
 ghost use Rattle.std.specs.Fn.{FnReturnsAt};
 ghost use Rattle.std.specs.List.{All, HoldsAt};
-ghost use Rattle.std.specs.Prelude.{◌≡◌, ◌<◌, ◌++◌, length, true, false, Decides};
-ghost use Rattle.std.specs.Str.{bytes_eq};
+ghost use Rattle.std.specs.Prelude.{◌≡◌, ◌<◌, ◌++◌, length, true, false};
 ghost use Rattle.scan.specs.Words.{blank, word_of, rest_of};
 
 // What is left of a text.
@@ -44,12 +43,4 @@ impl<'a> Scan<'a> {
         self.rest = after;
         word
     }
-}
-
-// Whether a word is that name.
-pub fn same(word: &[u8], name: &[u8]) -> bool
-    ensures decides { Decides result (word.now ≡ name.now) }
-    ensures value { result ≡ bytes_eq word.now name.now }
-{
-    word == name
 }

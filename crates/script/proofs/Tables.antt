@@ -1,6 +1,8 @@
 -- Words looked up in one table after the other.
-use Rattle.std.proofs.Common.{◌≡◌, ℕ, Bool, true, false, cond, List, [], ◌∷◌, ◌++◌, map, Some, Option, refl, ap, ◌∙◌}
+use Rattle.std.proofs.Common.{◌≡◌, ℕ, Bool, true, false, cond, List, [], ◌∷◌, ◌++◌, map, Some, None, Option, refl, ap, ◌∙◌}
 use Rattle.std.specs.List.{find}
+use Rattle.std.specs.Option.{ok_or}
+use Rattle.std.specs.Result.{result_ok}
 use Rattle.std.specs.Str.{bytes_eq}
 use Rattle.script.specs.declared.word.Word.{Word}
 use Rattle.script.specs.declared.word.Word.TheVariants.{Open, Model, Trade, End, LodgeCash, DrawCash, LodgeSecurity, DrawSecurity, Show, Set, Price, StepUp, Averages, Thresholds, Check, Close, Month, Report}
@@ -32,3 +34,8 @@ named t =
     found t all ∙ joined t account_words (collateral_words ++ (market_words ++ session_words))
     ∙ ap (or_else (looked_up t account_words)) (joined t collateral_words (market_words ++ session_words))
     ∙ ap (λ o. or_else (looked_up t account_words) (or_else (looked_up t collateral_words) o)) (joined t market_words session_words)
+
+-- what an `Option` has, as a `Result` has it
+pub kept : {A E : Type 0} → (o : Option A) (e : E) → result_ok (ok_or o e) ≡ o
+kept None e = refl
+kept (Some a) e = refl

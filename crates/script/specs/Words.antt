@@ -6,8 +6,15 @@
 --   session_words      and the others
 --   looked_up          the word that a text is, in such a table
 --   word_named         the word that a text is, in all four
+--   call_word          the word that asks for a call
 use Rattle.std.specs.Prelude.{ℕ, if◌then◌else◌, List, [], ◌∷◌, Some, None, codes, Option}
 use Rattle.std.specs.Str.{bytes_eq}
+use Rattle.market.specs.declared.call.MarketCall.{MarketCall}
+use Rattle.market.specs.declared.call.MarketCall.TheVariants.{Set as SetCall, Price as PriceCall, StepUp as StepUpCall, Averages as AveragesCall, Thresholds as ThresholdsCall, Volatility as VolatilityCall, Close as CloseCall, Month as MonthCall}
+use Rattle.rules.specs.declared.call.AccountCall.{AccountCall}
+use Rattle.rules.specs.declared.call.AccountCall.TheVariants.{Trade as TradeCall, End as EndCall, LodgeCash as LodgeCashCall, DrawCash as DrawCashCall, LodgeSecurity as LodgeSecurityCall, DrawSecurity as DrawSecurityCall, Show as ShowCall}
+use Rattle.rules.specs.declared.call.Call.{Call}
+use Rattle.rules.specs.declared.call.Call.TheVariants.{Account, Market}
 use Rattle.script.specs.declared.word.Word.{Word}
 use Rattle.script.specs.declared.word.Word.TheVariants.{Open, Model, Trade, End, LodgeCash, DrawCash, LodgeSecurity, DrawSecurity, Show, Set, Price, StepUp, Averages, Thresholds, Check, Close, Month, Report}
 
@@ -71,3 +78,26 @@ session_word t = looked_up t session_words
 
 unfoldable pub word_named : List ℕ → Option Word
 word_named t = or_else (account_word t) (or_else (collateral_word t) (or_else (market_word t) (session_word t)))
+
+abbrev pub account_call_word : AccountCall → Word
+account_call_word (TradeCall t) = Trade
+account_call_word (EndCall n) = End
+account_call_word (LodgeCashCall a) = LodgeCash
+account_call_word (DrawCashCall a) = DrawCash
+account_call_word (LodgeSecurityCall s l) = LodgeSecurity
+account_call_word (DrawSecurityCall s l) = DrawSecurity
+account_call_word ShowCall = Show
+
+abbrev pub market_call_word : MarketCall → Word
+market_call_word (SetCall s) = Set
+market_call_word (PriceCall q) = Price
+market_call_word (StepUpCall p) = StepUp
+market_call_word (AveragesCall f a) = Averages
+market_call_word (ThresholdsCall f t) = Thresholds
+market_call_word (VolatilityCall c) = Check
+market_call_word CloseCall = Close
+market_call_word (MonthCall m) = Month
+
+abbrev pub call_word : Call → Word
+call_word (Account named) = account_call_word named.call
+call_word (Market change) = market_call_word change

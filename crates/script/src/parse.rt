@@ -8,7 +8,7 @@ use super::command::Command;
 use super::fields::{FromFields, Name};
 use super::lines::without_comment;
 use super::reason::Reason;
-use super::word::{Word, word_named};
+use super::word::Word;
 use market::call::MarketCall;
 use rules::call::{AccountCall, Call, NamedCall};
 use scan::scan::Scan;
@@ -105,7 +105,7 @@ fn read_all(text: &[u8]) -> Result<Command, Reason>
     ensures { result ≡ whole_of text.now }
 {
     let mut scan = Scan::new(text);
-    let word = word_named(scan.word()).ok_or(Reason::UnknownWord)?;
+    let word = Word::try_from(scan.word())?;
     let found = read_command(word, &mut scan)?;
     if scan.word().is_empty() {
         Ok(found)

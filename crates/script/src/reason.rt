@@ -1,12 +1,13 @@
 // Why a line is not answered.
 ghost use Rattle.std.specs.Prelude.{◌≡◌, Some};
 ghost use Rattle.script.specs.Reasons.{reason_text};
-ghost use Rattle.script.specs.declared.reason.Reason.TheVariants.{NoMemory};
+ghost use Rattle.script.specs.declared.reason.Reason.TheVariants.{NoMemory, UnknownWord};
 
+use super::word::UnknownWord;
 use std::alloc::AllocError;
 use std::fmt;
 
-#[derive(Clone, Copy)]
+#[derive(Clone, Copy, Debug, PartialEq, Eq)]
 pub enum Reason {
     // The first word is none of those that begin a line.
     UnknownWord,
@@ -55,6 +56,14 @@ impl fmt::Display for Reason {
 
     fn fmt<W: fmt::Write>(&self, f: &mut fmt::Formatter<W>) -> fmt::Result {
         f.write_str(self.text())
+    }
+}
+
+impl From<UnknownWord> for Reason {
+    ghost from_gives = { λ _ reason. reason ≡ UnknownWord };
+
+    fn from(_error: UnknownWord) -> Reason {
+        Reason::UnknownWord
     }
 }
 

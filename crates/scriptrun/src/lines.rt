@@ -1,40 +1,14 @@
 // The lines that a run prints.
-use market::call::MarketCall;
 use models::refusal::MakingRefusal;
-use rules::call::{AccountCall, Call, Reply};
+use rules::call::{Call, Reply};
 use script::word::Word;
 use session::session::Session;
 use std::fmt::Write;
 use tables::row::AccountRow;
 
-// The word of a call.
-fn word_of(call: Call) -> Word {
-    match call {
-        Call::Account(named) => match named.call {
-            AccountCall::Trade(_) => Word::Trade,
-            AccountCall::End(_) => Word::End,
-            AccountCall::LodgeCash(_) => Word::LodgeCash,
-            AccountCall::DrawCash(_) => Word::DrawCash,
-            AccountCall::LodgeSecurity(_, _) => Word::LodgeSecurity,
-            AccountCall::DrawSecurity(_, _) => Word::DrawSecurity,
-            AccountCall::Show => Word::Show,
-        },
-        Call::Market(change) => match change {
-            MarketCall::Set(_) => Word::Set,
-            MarketCall::Price(_) => Word::Price,
-            MarketCall::StepUp(_) => Word::StepUp,
-            MarketCall::Averages(_, _) => Word::Averages,
-            MarketCall::Thresholds(_, _) => Word::Thresholds,
-            MarketCall::Volatility(_) => Word::Check,
-            MarketCall::Close => Word::Close,
-            MarketCall::Month(_) => Word::Month,
-        },
-    }
-}
-
 // The line of a call that was made.
 pub fn write_reply(text: &mut String, line: usize, call: Call, reply: Reply) -> anyhow::Result<()> {
-    let word = word_of(call).text();
+    let word = Word::from(call);
     writeln!(text, "{line} {word} {reply}")?;
     Ok(())
 }

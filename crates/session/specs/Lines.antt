@@ -1,6 +1,6 @@
 -- What a line of a script makes of a session. Assumes nothing.
 --   Takes   a text is taken for a model: what is said (r), and what is held after (k)
---   Loads   the same of a file, whose text is not known; it may be one that cannot be read
+--   Loads   the same of a file, whose text is not known; it may be one that cannot be read, or for which there is no memory
 --   Does    what a command does
 --   Plays   what a line does: nothing where it asks for nothing or has an error, else what its command does
 -- Want of memory is the only freedom, and it changes nothing.
@@ -29,7 +29,7 @@ Takes text h r k =
     ⊎ ((r ≡ Err NoMemory) × (k ≡ h))))
 
 abbrev pub Loads : Held → Reply → Held → Type 0
-Loads h r k = ((text : List ℕ) × Takes text h r k) ⊎ ((r ≡ Err NoFile) × (k ≡ h))
+Loads h r k = ((text : List ℕ) × Takes text h r k) ⊎ (((r ≡ Err NoFile) ⊎ (r ≡ Err NoMemory)) × (k ≡ h))
 
 abbrev pub Opens : ℕ → ℕ → Held → Reply → Held → Type 0
 Opens n month h r k =

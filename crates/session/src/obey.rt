@@ -1,6 +1,6 @@
 // A line of a script, played on a session.
-ghost use Rattle.std.specs.Prelude.{◌≡◌, IfErr};
-ghost use Rattle.script.specs.declared.reason.Reason.TheVariants.{NoFile};
+ghost use Rattle.std.specs.Prelude.{◌≡◌, ◌⊎◌, IfErr};
+ghost use Rattle.script.specs.declared.reason.Reason.TheVariants.{NoFile, NoMemory};
 ghost use Rattle.session.specs.Held.{held};
 ghost use Rattle.session.specs.Lines.{Takes, Does, Plays};
 
@@ -11,15 +11,26 @@ use script::command::Command;
 use script::parse::{file_name, parse};
 use script::reason::Reason;
 use std::alloc::Global;
-use std::fs;
+use std::io::ErrorKind;
 use std::str::from_utf8;
+use std::{fs, io};
+
+// Why a file was not read.
+fn unread(error: io::Error) -> Reason
+    ensures { (result ≡ NoFile) ⊎ (result ≡ NoMemory) }
+{
+    match error.kind() {
+        ErrorKind::OutOfMemory => Reason::NoMemory,
+        _ => Reason::NoFile,
+    }
+}
 
 // The bytes of the file of this name.
 fn read_file(rt: &HostRuntime, name: &[u8]) -> Result<Vec<u8>, Reason>
-    ensures { IfErr result (λ e. e ≡ NoFile) }
+    ensures { IfErr result (λ e. (e ≡ NoFile) ⊎ (e ≡ NoMemory)) }
 {
     let path = from_utf8(name).map_err(|_| Reason::NoFile)?;
-    fs::read(rt, path).map_err(|_| Reason::NoFile)
+    fs::read(rt, path).map_err(unread)
 }
 
 // Takes the model of a text into use. Refused numbers are said and no error, so a `From` and `?` are no plainer than this match.

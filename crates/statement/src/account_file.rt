@@ -55,18 +55,12 @@ fn one<T: TryFrom<u64, Error = TryFromIntError> + Drop>(numbers: &[u64]) -> anyh
     Ok(T::try_from(*number)?)
 }
 
-fn set_month(state: &mut MarketState, numbers: &[u64]) -> anyhow::Result<()> {
-    state.day.month = one(numbers)?;
-    Ok(())
-}
-
-fn set_set(state: &mut MarketState, numbers: &[u64]) -> anyhow::Result<()> {
-    state.day.set = one(numbers)?;
-    Ok(())
-}
-
-fn set_step_up(state: &mut MarketState, numbers: &[u64]) -> anyhow::Result<()> {
-    state.percent = one(numbers)?;
+// An entry that is the number of one place.
+fn set<T: TryFrom<u64, Error = TryFromIntError> + Drop>(
+    place: &mut T,
+    numbers: &[u64],
+) -> anyhow::Result<()> {
+    *place = one(numbers)?;
     Ok(())
 }
 
@@ -111,11 +105,6 @@ fn set_security(state: &mut MarketState, numbers: &[u64]) -> anyhow::Result<()> 
         return unknown();
     }
     state.securities[*number as usize] = security_of(*price, *haircut, *listed)?;
-    Ok(())
-}
-
-fn set_cash(row: &mut AccountRow, numbers: &[u64]) -> anyhow::Result<()> {
-    row.cash = one(numbers)?;
     Ok(())
 }
 
@@ -176,9 +165,9 @@ fn trade_of(numbers: &[u64]) -> anyhow::Result<TradeRow> {
 // An entry of the market.
 fn set_market(state: &mut MarketState, word: &str, numbers: &[u64]) -> anyhow::Result<()> {
     match word {
-        "month" => set_month(state, numbers),
-        "set" => set_set(state, numbers),
-        "step-up" => set_step_up(state, numbers),
+        "month" => set(&mut state.day.month, numbers),
+        "set" => set(&mut state.day.set, numbers),
+        "step-up" => set(&mut state.percent, numbers),
         "volatility" => set_volatility(state, numbers),
         "averages" => set_averages(state, numbers),
         "security" => set_security(state, numbers),
@@ -189,7 +178,7 @@ fn set_market(state: &mut MarketState, word: &str, numbers: &[u64]) -> anyhow::R
 // An entry of the account, or of the market.
 fn set_account(input: &mut Input, word: &str, numbers: &[u64]) -> anyhow::Result<()> {
     match word {
-        "cash" => set_cash(&mut input.row, numbers),
+        "cash" => set(&mut input.row.cash, numbers),
         "lots" => set_lots(&mut input.row, numbers),
         "levels" => set_levels(&mut input.row, numbers),
         "flags" => set_flags(&mut input.row, numbers),
@@ -224,10 +213,7 @@ fn read_entry(heap: Global, input: &mut Input, line: &str) -> anyhow::Result<()>
         return Ok(());
     }
     let mut numbers: Vec<u64> = Vec::new(heap);
-    for text in words {
-        if text.starts_with('#') {
-            break;
-        }
+    for text in words.take_while(|text| !text.starts_with('#')) {
         numbers.push(text.parse::<u64>()?)?;
     }
     set_entry(input, word, numbers.as_slice())

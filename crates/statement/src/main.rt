@@ -9,7 +9,7 @@ mod report;
 mod worked;
 
 use account_file::{Input, read_account};
-use anyhow::anyhow;
+use anyhow::Context;
 use knots::model::KnotLayout;
 use model_file::read_model;
 use models::check::check_joined;
@@ -26,9 +26,7 @@ use worked::print_worked;
 
 // The text of the file that an argument names.
 fn text_of(rt: &HostRuntime, path: Option<String>) -> anyhow::Result<String> {
-    let Some(path) = path else {
-        return Err(anyhow!("three files are wanted: an account, a table model, a knot model"));
-    };
+    let path = path.context("three files are wanted: an account, a table model, a knot model")?;
     Ok(fs::read_to_string(rt, path.as_str())?)
 }
 

@@ -1,13 +1,10 @@
 // A model's file: `table S N` or `knot S N`, and then the numbers of its tables in their order.
-use anyhow::anyhow;
+use anyhow::{Context, anyhow};
 use owned::owned_model::OwnedNumbers;
 use std::alloc::Global;
 
 fn count(word: Option<&str>) -> anyhow::Result<u32> {
-    match word {
-        Some(text) => Ok(text.parse::<u32>()?),
-        None => Err(anyhow!("a model's file lacks its counts")),
-    }
+    Ok(word.context("a model's file lacks its counts")?.parse()?)
 }
 
 // Reads a model's file, and stops at the first word that is no number of its width: crate `modelfile` holds such a number as out of

@@ -3,7 +3,7 @@ ghost use Rattle.std.specs.Prelude.{◌≡◌, IfOk};
 ghost use Rattle.margins.specs.Figures.{figures_of};
 
 use super::account_file::Input;
-use anyhow::anyhow;
+use anyhow::Context;
 use margins::figures::Figures;
 use margins::figures::work::figures;
 use margins::flags::{own_flag, second_flag};
@@ -53,15 +53,11 @@ pub fn figures_of<'a, M: MarginModel>(
 ) -> anyhow::Result<Figures>
     ensures { IfOk result (λ f. f ≡ figures_of (M.meaning model.now) input.now.state input.now.row trades.now) }
 {
-    let Some(market) = Market::from_state(input.state) else {
-        return Err(anyhow!("a number of the market is out of range"));
-    };
-    let Some(account) = Account::from_row(input.row) else {
-        return Err(anyhow!("a number of the account is out of range"));
-    };
-    let Some(standing) = StandingTrades::from_rows(trades) else {
-        return Err(anyhow!("a trade is out of range, or there are more than 64"));
-    };
+    let market = Market::from_state(input.state).context("a number of the market is out of range")?;
+    let account = Account::from_row(input.row).context("a number of the account is out of range")?;
+    let standing = StandingTrades::from_rows(trades).context(
+        "a trade is out of range, or there are more than 64",
+    )?;
     Ok(figures(model, &market, &account, standing))
 }
 

@@ -1,7 +1,7 @@
 // The worked figures, each beside what it should be.
 use super::account_file::Input;
 use super::report::figures_of;
-use anyhow::anyhow;
+use anyhow::{Context, anyhow};
 use margins::charges::next_level;
 use margins::figures::BenchmarkFigures;
 use margins::flags::own_flag;
@@ -31,7 +31,8 @@ fn trade(side: u8, notional: u32, months: u8, rate: u32) -> TradeRow {
     }
 }
 
-// The model of 1 set and 20 scenarios with one rate and tick value and no changes.
+// The model of 1 set and 20 scenarios with one rate and tick value and no changes. It shares no making with the model of zeros of
+// crate `modelfile`, whose counts are its definition's: these are those of the worked figures.
 fn worked_model(heap: Global) -> anyhow::Result<OwnedTable> {
     let rates = vec![in heap; 65_500u32; 484]?;
     let ticks = vec![in heap; 10_000u32; 484]?;
@@ -99,9 +100,9 @@ fn print_mark(rt: &HostRuntime, model: &OwnedTable) -> anyhow::Result<()> {
 // The second highest of three losses.
 fn second_loss() -> anyhow::Result<u64> {
     let mut places = [0i64; 2];
-    let Some(loss) = kth_highest(&[9i64, 9, 5], &mut places) else {
-        return Err(anyhow!("three losses have a second highest"));
-    };
+    let loss = kth_highest(&[9i64, 9, 5], &mut places).context(
+        "three losses have a second highest",
+    )?;
     Ok(loss.unsigned_abs())
 }
 
@@ -120,9 +121,9 @@ fn lots_value() -> anyhow::Result<u64> {
         haircut: 4,
         listed: true,
     };
-    let Some(security) = Security::from_row(row) else {
-        return Err(anyhow!("the security of the worked figures is refused"));
-    };
+    let security = Security::from_row(row).context(
+        "the security of the worked figures is refused",
+    )?;
     Ok(security.lots_value(10))
 }
 

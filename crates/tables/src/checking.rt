@@ -18,6 +18,7 @@ fn all_empty(places: &[TradeRow]) -> bool
     places.iter().all(|place| *place == NO_TRADE)
 }
 
+// The 64 places are a slice and no array: they are a part of the caller's table, and an array would be a conversion that can fail.
 fn places_keep(count: u8, places: &[TradeRow]) -> bool
     requires { length places.now ≡ 64 }
     ensures { result ≡ places_keep count places.now }
@@ -35,6 +36,7 @@ fn figures_keep(most: u64, row: &AccountRow) -> bool
     row.obligation <= most && row.available <= CONSTITUENT_MOST && row.shortfall <= most
 }
 
+// The places are a slice, as in `places_keep`.
 fn book_keeps(most: u64, row: &AccountRow, places: &[TradeRow]) -> bool
     requires { length places.now ≡ 64 }
     ensures { result ≡ book_keeps most (book row.now places.now) }

@@ -10,8 +10,7 @@ pub fn trade_keeps(trade: &TradeRow) -> bool
 {
     trade.benchmark <= 3
         && trade.side <= 1
-        && trade.notional >= 1
-        && trade.notional <= 1_000_000
+        && (1..=1_000_000).contains(&trade.notional)
         && trade.rate <= 200_000
 }
 

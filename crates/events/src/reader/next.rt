@@ -49,18 +49,14 @@ impl<'a> Reader<'a> {
         if rest.is_empty() {
             return Ok(None);
         }
-        match head(rest, self.count == 0) {
-            Err(reason) => Err(Fault {
-                ordinal: self.count + 1,
-                reason,
-                offset: self.place as u32,
-            }),
-            Ok(kind) => {
-                let event = decode(rest, kind);
-                self.place += kind.length() as usize;
-                self.count += 1;
-                Ok(Some(event))
-            }
-        }
+        let kind = head(rest, self.count == 0).map_err(|reason| Fault {
+            ordinal: self.count + 1,
+            reason,
+            offset: self.place as u32,
+        })?;
+        let event = decode(rest, kind);
+        self.place += kind.length() as usize;
+        self.count += 1;
+        Ok(Some(event))
     }
 }

@@ -44,6 +44,13 @@ impl MarginModel for SingleModel {
             SingleModel::Knots(m) => m.change(set, benchmark, residual, scenario),
         }
     }
+
+    fn changes(&self, set: u32, benchmark: u32, residual: u32, room: &mut [i32]) {
+        match self {
+            SingleModel::Table(m) => m.changes(set, benchmark, residual, room),
+            SingleModel::Knots(m) => m.changes(set, benchmark, residual, room),
+        }
+    }
 }
 
 impl MarginModel for AnyModel {
@@ -83,6 +90,13 @@ impl MarginModel for AnyModel {
         match self {
             AnyModel::One(m) => m.change(set, benchmark, residual, scenario),
             AnyModel::Two(m) => m.change(set, benchmark, residual, scenario),
+        }
+    }
+
+    fn changes(&self, set: u32, benchmark: u32, residual: u32, room: &mut [i32]) {
+        match self {
+            AnyModel::One(m) => m.changes(set, benchmark, residual, room),
+            AnyModel::Two(m) => m.changes(set, benchmark, residual, room),
         }
     }
 }

@@ -1,9 +1,9 @@
-use Rattle.std.proofs.Common.{ℕ, eqb, List, get_or, drop, sym, ap, ◌∙◌, ap₂, arith}
+use Rattle.std.proofs.Common.{ℕ, eqb, List, get_or, drop, sym, ap, ◌∙◌, ap₂}
 use Rattle.tables.specs.declared.row.AccountRow.{AccountRow}
 use Rattle.tables.specs.declared.row.TradeRow.{TradeRow}
 use Rattle.tables.specs.Books.{Book, books_of, no_row}
 use Rattle.tables.specs.Limits.{tables_keep}
-use Rattle.tables.proofs.Books.{kept, put_keeps}
+use Rattle.tables.proofs.Books.{put_keeps}
 use Rattle.refusals.proofs.Facts.{refusal_some}
 use Rattle.rules.specs.Stands.{ordered, shortfalls, standing, finish, rows_of}
 use Rattle.rules.specs.Outcomes.{answer_of}
@@ -67,8 +67,3 @@ returns-in-Ok g c =
       stands = ap (standing k c.finish_settling.new.records) c.write_book.ensures.trades ∙ o.3;
       rests = λ _. c.finish_settling.ensures.rests;
     }
-
-pub bounds-records-account-in-Ok : goal.bounds-records-account-in-Ok
-bounds-records-account-in-Ok g c =
-    let n = c.args.house.now.accounts in
-    omega (arith, (kept n c.finish_settling.new.records c.write_book.new.trades c.finish_settling.ensures.keeps).rows, c.requires.there)

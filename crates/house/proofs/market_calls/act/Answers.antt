@@ -1,38 +1,25 @@
-use Rattle.std.proofs.Common.{◌≡◌, ℕ, Ok, Err, Result, sym, refl, ap, ◌∙◌, ap₂}
+use Rattle.std.proofs.Common.{◌≡◌, ℕ, Ok, Err, Result, sym, refl, ap, ◌∙◌}
 use Rattle.refusals.specs.declared.refusal.Refusal.{Refusal}
 use Rattle.refusals.specs.Refusals.{first_no, decided}
-use Rattle.refusals.proofs.Facts.{refusal_some}
-use Rattle.market.specs.declared.state.MarketState.{MarketState}
 use Rattle.market.specs.Calls.{market_questions, market_changed}
-use Rattle.rules.specs.declared.call.MarketAnswer.{MarketAnswer}
-use Rattle.rules.specs.Stands.{standing}
-use Rattle.rules.specs.MarketCalls.{market_answer}
 use Rattle.house.proofs.Announced.{market_refused, market_granted}
 use Rattle.house.proofs.market_calls.act.Goals as goal
 
-pub returns-in-Err : goal.returns-in-Err
-returns-in-Err g c =
+pub returns-in-Err-clause-rows : goal.returns-in-Err-clause-rows
+returns-in-Err-clause-rows g c =
     let m = g.M.MarginModel.meaning c.args.model.now in
     let k = c.args.house.now.market.state in
-    let n = c.args.house.now.accounts in
-    let rs = c.args.records.now in
-    let ts = c.args.trades.now in
-    let e = c.in-Err.refusal in
-    let asked : first_no (market_questions m.sets k c.args.call) ≡ Err e =
+    let asked : first_no (market_questions m.sets k c.args.call) ≡ Err c.in-Err.refusal =
     ap (λ (x : ℕ). first_no (market_questions x k c.args.call)) (sym c.sets.ensures) ∙ sym c.take.ensures.answer ∙ c.in-Err.is in
-    let stays : c.take.new.self.state ≡ k =
-    c.take.ensures.state ∙ ap (λ (r : Result (Unit {0}) Refusal). decided r (market_changed c.args.call k) (λ x. k)) (sym c.take.ensures.answer ∙ c.in-Err.is) in
-    let o = market_refused m k n rs ts c.args.call c.args.house.now.some c.requires e asked in
-    record {
-      accounts = refl;
-      answer = c.answered.ensures ∙ ap₂ market_answer c.number.ensures stays ∙ o.0;
-      market = stays ∙ o.1;
-      rows = o.2;
-      trades = o.3;
-      keeps = c.requires;
-      stands = ap (λ (x : MarketState). standing x rs ts) stays ∙ o.4;
-      rests = λ nil. absurd (refusal_some e (sym (ap (λ (a : MarketAnswer). a.number) c.answered.ensures ∙ c.number.ensures) ∙ nil));
-    }
+    (market_refused m k c.args.house.now.accounts c.args.records.now c.args.trades.now c.args.call c.args.house.now.some c.requires c.in-Err.refusal asked).0
+
+pub returns-in-Err-clause-trades : goal.returns-in-Err-clause-trades
+returns-in-Err-clause-trades g c =
+    let m = g.M.MarginModel.meaning c.args.model.now in
+    let k = c.args.house.now.market.state in
+    let asked : first_no (market_questions m.sets k c.args.call) ≡ Err c.in-Err.refusal =
+    ap (λ (x : ℕ). first_no (market_questions x k c.args.call)) (sym c.sets.ensures) ∙ sym c.take.ensures.answer ∙ c.in-Err.is in
+    (market_refused m k c.args.house.now.accounts c.args.records.now c.args.trades.now c.args.call c.args.house.now.some c.requires c.in-Err.refusal asked).1
 
 pub returns-in-Ok : goal.returns-in-Ok
 returns-in-Ok g c =

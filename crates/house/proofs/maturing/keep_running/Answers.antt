@@ -1,6 +1,6 @@
 use Rattle.std.proofs.Common.{◌≡◌, ◌<◌, length, get_or, arith}
 use Rattle.std.proofs.lemmas.List.{get_or_default}
-use Rattle.std.proofs.lemmas.List.Filters.{FiltersInPlace-all, FiltersInPlace-more_no, FiltersInPlace-more_set}
+use Rattle.std.proofs.lemmas.List.Filters.{FiltersInPlace-more_no, FiltersInPlace-more_set}
 use Rattle.std.proofs.lemmas.Bool.{le-leb, lt-leb}
 use Rattle.tables.specs.declared.row.TradeRow.{TradeRow}
 use Rattle.tables.specs.Limits.{no_trade}
@@ -19,8 +19,3 @@ loop-i-preserved c =
       | then-trade-month w ↦ rw (w.trades-is, w.running-is) (FiltersInPlace-more_set k lt (le-leb c.args.month x.maturity w.if-trade-month.true) same)
       | else-trade-month w ↦ rw (w.trades-is, w.running-is) (FiltersInPlace-more_no k lt (lt-leb c.args.month x.maturity w.if-trade-month.false) same)
     ]
-
-pub returns : goal.returns
-returns c =
-    let k = c.loop-i.invariant in
-    record { front = FiltersInPlace-all k (omega (arith, c.loop-i-test.false)); bound = omega (arith, k.behind, k.within); long = k.long }

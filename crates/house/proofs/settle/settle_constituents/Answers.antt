@@ -14,12 +14,6 @@ loop-i-init g c =
     let n = c.args.house.now.accounts in
     (c.requires, omega arith, sym (books_whole (books_of rs ts) (omega (arith, length_books rs ts, (kept n rs ts c.requires).rows, c.args.house.now.some))))
 
-pub read_book-held-requires-clause-there : goal.read_book-held-requires-clause-there
-read_book-held-requires-clause-there g c =
-    let n = c.args.house.now.accounts in
-    let ts = c.args.trades.now in
-    omega (arith, (kept n c.loop-i.records ts c.loop-i.invariant.0).rows, (kept n c.args.records.now ts c.requires).rows, c.loop-i-test.true)
-
 pub loop-i-preserved : goal.loop-i-preserved
 loop-i-preserved g c =
     let m = g.M.MarginModel.meaning c.args.model.now in
@@ -56,14 +50,11 @@ loop-i-preserved g c =
           ∙ ap (λ (x : ℕ). get_or bs 0 no_book ∷ (map f (take x (drop 1 bs)) ++ drop x (drop 1 bs))) (sym more),
     )
 
-pub returns : goal.returns
-returns g c =
+pub returns-clause-books : goal.returns-clause-books
+returns-clause-books g c =
     let ts = c.args.trades.now in
     let n = c.args.house.now.accounts in
     let bs = books_of c.args.records.now ts in
     let i = c.loop-i.i in
     let end : length (drop 1 bs) ≤ i - 1 = omega (arith, length-drop 1 bs, length_books c.args.records.now ts, (kept n c.args.records.now ts c.requires).rows, c.loop-i-test.false) in
-    record {
-      books = c.loop-i.invariant.2 ∙ simp (take_all (i - 1) (drop 1 bs) end, drop_all (i - 1) (drop 1 bs) end, append-nil);
-      keeps = c.loop-i.invariant.0;
-    }
+    c.loop-i.invariant.2 ∙ simp (take_all (i - 1) (drop 1 bs) end, drop_all (i - 1) (drop 1 bs) end, append-nil)
