@@ -339,6 +339,18 @@ def reached(lines):
     return found
 
 
+def other_lines(directory):
+    """The worked example once more, with expected lines of which the last digit is another: a run has to say that it differs."""
+    with open(os.path.join(directory, "worked.ev"), "rb") as file:
+        data = file.read()
+    last = WORKED.rstrip("\n")
+    wrong = last[:-1] + ("1" if last[-1] != "1" else "2") + "\n"
+    with open(os.path.join(directory, "other_lines.ev"), "wb") as out:
+        out.write(data)
+    with open(os.path.join(directory, "other_lines.expected"), "w", newline="\n") as out:
+        out.write(wrong)
+
+
 def main():
     if len(sys.argv) != 2:
         sys.exit("usage: make_events.py DIRECTORY")
@@ -358,6 +370,7 @@ def main():
         with open(os.path.join(sys.argv[1], name + ".expected"), "w", newline="\n") as out:
             out.write(text)
         print("%-28s %6d bytes: %s" % (name, len(data), " ".join(sorted(map(str, found)))))
+    other_lines(sys.argv[1])
     should = set(range(2, 12)) | {13, 14, 15, 16, 29, 30} | {"f%d" % n for n in range(1, 6)}
     if everything != should:
         sys.exit("reached in all: %s" % sorted(map(str, everything)))

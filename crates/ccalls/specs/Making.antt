@@ -1,6 +1,6 @@
 -- What a check before a making answers. Assumes nothing.
 --   making_number    0, or the number of the refusal
---   place_after      what is left at the place: a place that is out of range, or what was there
+--   place_or, place_after   what is left at the place: a place that is out of range, or what was there
 --   MakingAnswered   the check of three tables, answered n, with p at the place before and q after
 --   joining_number   the check of the scenarios of two models
 use Rattle.std.specs.Prelude.{◌≡◌, ℕ, ◌+◌, Some, None, Ok, Err, Option, Result, if◌then◌else◌, nat_le}

@@ -1,4 +1,5 @@
 -- What an opening leaves.
+-- Opened: the house and both tables after an accepted one.
 -- Opens: n accounts and a month; house h, records rs and places ts before, h', us and vs after; r is the first no among its questions.
 use Rattle.std.specs.Prelude.{◌≡◌, ℕ, true, List, Ok, Err, Result}
 use Rattle.refusals.specs.declared.refusal.Refusal.{Refusal}

@@ -5,17 +5,20 @@ ghost use Rattle.rules.specs.declared.call.Reply.TheVariants.{Account as Account
 ghost use Rattle.rules.specs.Outcomes.{blank_answer};
 ghost use Rattle.engine.specs.Promises.{AnswersCall};
 ghost use Rattle.crows.specs.Rows.{accounts_of, accounts_fit, state_of, house_keeps};
-ghost use Rattle.ccalls.specs.Meanings.{model_meaning};
+ghost use Rattle.ccalls.specs.Meanings.{joined_meaning, model_meaning};
 ghost use Rattle.ccalls.specs.Answers.{RowsAnswered, AccountAnswered, MarketAnswered, no_house};
 
 use super::model::CModel;
-use super::parts::{Part, part_of};
+use super::parts::laid;
 use super::rows::{accounts_fit, read_accounts, write_accounts};
 use crows::houses::{house_numbers, house_of};
 use crows::row::{CAccount, CHouse};
 use engine::answer::answer;
+use knots::model::KnotLayout;
 use market::call::MarketCall;
 use models::joined::Joined;
+use models::model::MarginModel;
+use models::table::TableLayout;
 use opening::opening::empty_row;
 use rules::call::{AccountCall, Answer, Call, MarketAnswer, NamedCall, Reply};
 use rules::house::House;
@@ -24,7 +27,31 @@ use tables::row::{AccountRow, TradeRow};
 // The number where the memory of a house holds none.
 const NO_HOUSE: u8 = 255;
 
-// A call on the engine's own rows. The make of the model is found once, so that no question to the model looks for it again.
+// A call on the engine's own rows, with the first numbers' model alone or joined with the second's. Where numbers are joined, each make
+// of the second has a call of its own, so that no question to the model looks for its make again.
+fn answer_joined<F: MarginModel + Drop>(
+    house: &mut House,
+    first: F,
+    model: CModel<'_>,
+    records: &mut [AccountRow],
+    trades: &mut [TradeRow],
+    call: Call,
+) -> Reply
+    ensures accounts { house.new.accounts ≡ house.old.accounts }
+    ensures answered { AnswersCall (joined_meaning (F.meaning first) model.entry) house.old.market.state house.new.market.state house.old.accounts records.old records.new trades.old trades.new call result }
+{
+    if model.joined == 0 {
+        answer(house, &first, records, trades, call)
+    } else if model.second.kind == 0 {
+        let joined = Joined::new(first, laid::<TableLayout>(model.second));
+        answer(house, &joined, records, trades, call)
+    } else {
+        let joined = Joined::new(first, laid::<KnotLayout>(model.second));
+        answer(house, &joined, records, trades, call)
+    }
+}
+
+// The same, by the make of the first numbers.
 fn answer_made(
     house: &mut House,
     model: CModel<'_>,
@@ -35,30 +62,17 @@ fn answer_made(
     ensures accounts { house.new.accounts ≡ house.old.accounts }
     ensures answered { AnswersCall (model_meaning model.entry) house.old.market.state house.new.market.state house.old.accounts records.old records.new trades.old trades.new call result }
 {
-    let first = part_of(model.first);
-    if model.joined == 0 {
-        return match first {
-            Part::Table(t) => answer(house, &t, records, trades, call),
-            Part::Knots(t) => answer(house, &t, records, trades, call),
-        };
-    }
-    match (first, part_of(model.second)) {
-        (Part::Table(t), Part::Table(u)) => {
-            answer(house, &Joined::new(t, u), records, trades, call)
-        }
-        (Part::Table(t), Part::Knots(u)) => {
-            answer(house, &Joined::new(t, u), records, trades, call)
-        }
-        (Part::Knots(t), Part::Table(u)) => {
-            answer(house, &Joined::new(t, u), records, trades, call)
-        }
-        (Part::Knots(t), Part::Knots(u)) => {
-            answer(house, &Joined::new(t, u), records, trades, call)
-        }
+    if model.first.kind == 0 {
+        let first = laid::<TableLayout>(model.first);
+        answer_joined(house, first, model, records, trades, call)
+    } else {
+        let first = laid::<KnotLayout>(model.first);
+        answer_joined(house, first, model, records, trades, call)
     }
 }
 
-// A call on records whose flags are flags: they are read into rows of the engine, and written back.
+// A call on records whose flags are flags: they are read into rows of the engine, and written back. The room is an array, of which the
+// front is used: there is no heap.
 fn answer_fit(
     house: &mut House,
     model: CModel<'_>,
@@ -69,7 +83,7 @@ fn answer_fit(
     requires { accounts_fit records.old ≡ true }
     ensures accounts { house.new.accounts ≡ house.old.accounts }
     ensures answered { AnswersCall (model_meaning model.entry) house.old.market.state house.new.market.state house.old.accounts (accounts_of records.old) (accounts_of records.new) trades.old trades.new call result }
-    ensures fit { accounts_fit records.new ≡ true }
+    ensures fits { accounts_fit records.new ≡ true }
 {
     let mut held = [empty_row(); 32];
     let rows = &mut held[..records.len()];

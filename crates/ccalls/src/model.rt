@@ -1,4 +1,5 @@
-// A model: the first numbers alone, or joined with the second. That they passed their checks, a caller says by passing them.
+// A model: the first numbers alone, or joined with the second. That they passed their checks, a caller says by passing them. `joined`
+// is a number and the second stand there in any case, as C lays them out.
 ghost use Rattle.std.specs.Prelude.{◌≡◌, ◌==◌, false};
 ghost use Rattle.ccalls.specs.Numbers.{NumbersSound};
 

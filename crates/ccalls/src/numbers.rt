@@ -1,4 +1,5 @@
-// The numbers of a model, of which nothing is known. `kind` is 0 for a table, and any other number for knots.
+// The numbers of a model, of which nothing is known. `kind` is 0 for a table, and any other number for knots: no enum, since any
+// number may come from C.
 #[repr(C)]
 #[derive(Clone, Copy)]
 pub struct CNumbers<'a> {

@@ -13,7 +13,7 @@ use refusals::refusal::Refusal;
 use tables::row::TradeRow;
 
 // Why no house is opened with more records than any house has. The questions of an opening are asked in `opening` of rows, which so
-// many records cannot be read into.
+// many records cannot be read into, so that they are asked here once more.
 fn too_many(accounts: u32, month: u16, records: &[CAccount], trades: &[TradeRow]) -> Refusal
     requires { 32 < length records.now }
     ensures { first_no (opening_questions accounts month (accounts_of records.now) trades.now) ≡ Err result }
@@ -48,7 +48,8 @@ fn open_fit(
     Ok(())
 }
 
-// 0, or the number of the refusal: then nothing is written.
+// 0, or the number of the refusal: then nothing is written. The two arms are those of `opening::open`, and of the checks of a making:
+// one function for them would be generic over the refusal, and longer than what it stands for.
 pub fn open(
     house: &mut CHouse,
     accounts: u32,

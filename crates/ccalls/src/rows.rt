@@ -75,7 +75,7 @@ pub(crate) fn read_accounts(from: &[CAccount], into: &mut [AccountRow])
 pub(crate) fn write_accounts(from: &[AccountRow], into: &mut [CAccount])
     requires { length into.old ≡ length from.now }
     ensures rows { accounts_of into.new ≡ from.now }
-    ensures fit { list_all account_fits into.new ≡ true }
+    ensures fits { list_all account_fits into.new ≡ true }
 {
     for (i, row) in from.iter().enumerate() {
         into[i] = account_numbers(row);

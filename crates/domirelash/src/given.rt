@@ -17,14 +17,17 @@ pub struct CReturns {
     pub of: [u32; 5],
 }
 
-pub(crate) fn thresholds_of(marks: CMarks) -> Thresholds
-    ensures { result ≡ record { triggers = marks.triggers; calm = marks.calm } }
-{
-    let triggers = marks.triggers;
-    let calm = marks.calm;
-    Thresholds { triggers, calm }
+impl From<CMarks> for Thresholds {
+    ghost from_gives = { λ marks t. t ≡ record { triggers = marks.triggers; calm = marks.calm } };
+
+    fn from(marks: CMarks) -> Thresholds {
+        let triggers = marks.triggers;
+        let calm = marks.calm;
+        Thresholds { triggers, calm }
+    }
 }
 
+// No `From`: it takes one value, and a tuple of these three would be no type of this crate.
 pub(crate) fn check_of(family: u32, slot: u32, given: CReturns) -> Check
     ensures { result ≡ record { family = family; slot = slot; returns = given.of } }
 {

@@ -1,4 +1,5 @@
-// The static library for callers in C (bindings/include/domirelash.h): thin functions over crates `crows` and `ccalls`.
+// The static library for callers in C (bindings/include/domirelash.h): thin functions over crates `crows` and `ccalls`. Each call has
+// one, as in `house::calls`: a caller in C knows it by its name and arguments.
 #![tactic(auto)]
 
 pub mod account_calls;

@@ -2,12 +2,12 @@
 ghost use Rattle.ccalls.specs.Meanings.{model_meaning};
 ghost use Rattle.ccalls.specs.Answers.{MarketAnswered};
 
-use super::given::{CMarks, CReturns, check_of, thresholds_of};
+use super::given::{CMarks, CReturns, check_of};
 use ccalls::calls::answer_market;
 use ccalls::model::CModel;
 use crows::row::{CAccount, CHouse};
 use market::call::{MarketCall, Quote};
-use market::state::Averages;
+use market::state::{Averages, Thresholds};
 use rules::call::MarketAnswer;
 use tables::row::TradeRow;
 
@@ -106,7 +106,7 @@ pub extern "C" fn domirelash_thresholds(
         model,
         records,
         trades,
-        MarketCall::Thresholds(family, thresholds_of(marks)),
+        MarketCall::Thresholds(family, Thresholds::from(marks)),
     )
 }
 

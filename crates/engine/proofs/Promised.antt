@@ -17,8 +17,9 @@ use Rattle.rules.specs.Outcomes.{Outcome, Answered}
 use Rattle.rules.specs.MarketCalls.{MarketOutcome, MarketAnswered}
 use Rattle.isolation.proofs.Law.{isolation}
 use Rattle.engine.specs.Promises.{AnswersCall}
+use Rattle.engine.proofs.Refused.{account_refused, market_refused}
 
-module _ (m : Meaning) (k : MarketState) (n : ℕ) (rs us : List AccountRow) (ts vs : List TradeRow) where
+module _ (m : Meaning) (k : MarketState) (n : ℕ) (some : 1 ≤ n) (rs us : List AccountRow) (ts vs : List TradeRow) where
   pub account_promised : (c : NamedCall) (a : Answer) → Answered m k n rs us ts vs c.account c.call a → AnswersCall m k k n rs us ts vs (Account c) (AccountReply a)
   account_promised c a p = record {
     reply_is = ap AccountReply p.answer;
@@ -27,6 +28,9 @@ module _ (m : Meaning) (k : MarketState) (n : ℕ) (rs us : List AccountRow) (ts
     trades = p.trades;
     keeps = p.keeps;
     rests = p.rests;
+    refused = λ ne.
+        let o = account_refused m k n some rs ts c.account c.call (λ nil. ne (ap (λ (x : Answer). x.number) p.answer ∙ nil)) in
+        (refl, (p.rows ∙ o.0), (p.trades ∙ o.1));
     others = p.others;
     right_is = λ h. ap AccountReply (p.answer ∙ ap (λ (o : Outcome). o.answer) (cond-true (tables_keep n rs ts) _ _ h));
     right_stands = p.stands;
@@ -43,6 +47,9 @@ module _ (m : Meaning) (k : MarketState) (n : ℕ) (rs us : List AccountRow) (ts
     trades = p.trades;
     keeps = p.keeps;
     rests = p.rests;
+    refused = λ ne.
+        let o = market_refused m k n some rs ts c (λ nil. ne (ap (λ (x : MarketAnswer). x.number) p.answer ∙ nil)) in
+        ((p.market ∙ o.0), (p.rows ∙ o.1), (p.trades ∙ o.2));
     others = tt;
     right_is = λ h. ap MarketReply (p.answer ∙ ap (λ (o : MarketOutcome). o.answer) (cond-true (tables_keep n rs ts) _ _ h));
     right_stands = p.stands;

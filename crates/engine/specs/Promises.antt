@@ -1,9 +1,9 @@
 -- What the calls that answer, replay and play promise.
 -- OthersOf: what a call leaves of the accounts that it does not name. AnswersCall: one call, on any tables.
--- Past: an accepted opening and a list of events that led to a stand.
+-- Past: an accepted opening and a list of events that led to a stand. first_stand: the stand that its opening left.
 -- IsolatedRun: the isolation of a run from a stand, whatever past led there. HeldBy: tables within their limits that hold a stand. Replays: a list of events, from where a house stands.
 -- Day, Nothing: an accepted and a refused opening. PlaysDay: an opening, and a list of events after it.
-use Rattle.std.specs.Prelude.{◌≡◌, ℕ, ◌≤◌, min, true, false, if◌then◌else◌, List, ◌++◌, length, take, drop, Ok, Err, Result}
+use Rattle.std.specs.Prelude.{◌≡◌, ◌≢◌, ℕ, ◌≤◌, min, true, false, if◌then◌else◌, List, ◌++◌, length, take, drop, Ok, Err, Result}
 use Rattle.models.specs.Meaning.{Meaning}
 use Rattle.refusals.specs.declared.refusal.Refusal.{Refusal}
 use Rattle.refusals.specs.Refusals.{first_no}
@@ -40,6 +40,8 @@ pub record AnswersCall (m : Meaning) (k l : MarketState) (n : ℕ) (rs us : List
   -- limits stay kept, and after an accepted call settling once more changes nothing
   pub keeps : tables_keep n us vs ≡ tables_keep n rs ts
   pub rests : reply_number a ≡ 0 → AtRest m l us vs
+  -- a refused call changes nothing
+  pub refused : reply_number a ≢ 0 → (l ≡ k) × (us ≡ rs) × (vs ≡ ts)
   -- every account that an account call does not name keeps its places, a constituent its record but for the second flag, and the
   -- house is settled at the cover
   pub others : OthersOf m k n rs us ts vs c a

@@ -1,6 +1,6 @@
 -- An event file played on a house of its own.
 -- opening_number: the number of an opening whose tables have the right lengths.
--- opening_in: the number of the opening of a file, if there is one. answers_in: the answers to the records after an accepted opening. answer_in: the answer in a reply.
+-- opening_in: the number of the opening of a file, if there is one. tables_after: the tables that an accepted opening and the calls after it leave. answers_in: the answers to the records after an accepted opening. answer_in: the answer in a reply.
 -- IsolatedFile: the isolation of the run. Plays: the number and the answers of played records, and their isolation. IsFileRun: what the run of a file holds: its records, its fault and its answers.
 use Rattle.std.specs.Prelude.{◌≡◌, ℕ, if◌then◌else◌, List, [], ◌∷◌, map, Some, None, vec_items, Option, ◌==◌}
 use Rattle.models.specs.Meaning.{Meaning}
@@ -9,8 +9,9 @@ use Rattle.events.specs.declared.event.Event.{Event}
 use Rattle.events.specs.declared.event.Event.TheVariants.{Open, Trade, LodgeCash, DrawCash}
 use Rattle.rules.specs.Opening.{opening_questions, opened_market, opened_rows, opened_trades}
 use Rattle.refusals.specs.Refusals.{first_no, result_number}
-use Rattle.rules.specs.Runs.{answers_run}
+use Rattle.rules.specs.Runs.{Lent, lent_run, answers_run}
 use Rattle.rules.specs.declared.call.Answer.{Answer}
+use Rattle.rules.specs.declared.call.NamedCall.{NamedCall}
 use Rattle.rules.specs.declared.call.Reply.{Reply}
 use Rattle.rules.specs.declared.call.Reply.TheVariants.{Account as AccountReply, Market as MarketReply}
 use Rattle.rules.specs.Outcomes.{blank_answer}
@@ -33,6 +34,10 @@ opening_in (DrawCash a m ∷ es) = None
 abbrev pub answers_after : Meaning → ℕ → ℕ → List Event → List Answer
 answers_after m n month es =
     (if opening_number n month == 0 then answers_run m (opened_market month) n (opened_rows n, opened_trades n) (calls_in es) else [])
+
+-- the tables that an accepted opening and the calls after it leave
+abbrev pub tables_after : Meaning → ℕ → ℕ → List NamedCall → Lent
+tables_after m n month cs = lent_run m (opened_market month) n (opened_rows n, opened_trades n) cs
 
 abbrev pub answers_in : Meaning → List Event → List Answer
 answers_in m [] = []

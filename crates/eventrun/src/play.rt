@@ -1,11 +1,11 @@
 // An event file played: the opening, and then the account calls.
-ghost use Rattle.std.specs.Prelude.{◌≡◌, min, ◌∷◌, map, length, take, IfOk};
+ghost use Rattle.std.specs.Prelude.{◌≡◌, ◌≢◌, min, ◌∷◌, map, length, take, drop, IfOk};
 ghost use Rattle.events.specs.declared.event.Event.TheVariants.{Open};
 ghost use Rattle.events.specs.Files.{events_of, fault_of};
-ghost use Rattle.refusals.specs.Refusals.{first_no, result_number};
+ghost use Rattle.refusals.specs.Refusals.{first_no, decided, result_number};
 ghost use Rattle.rules.specs.Opening.{opening_questions, opened_market, opened_rows, opened_trades};
 ghost use Rattle.rules.specs.Runs.{answers_run};
-ghost use Rattle.eventrun.specs.Files.{answer_in, Plays, IsFileRun};
+ghost use Rattle.eventrun.specs.Files.{answer_in, tables_after, Plays, IsFileRun};
 
 use super::calls::{calls_in, events_in};
 use engine::play::play as play_day;
@@ -43,7 +43,7 @@ pub struct FileRun {
 }
 
 // Opens the house, and answers the calls on it in turn. Gives the number of the opening, plain as `open` answers it; after a
-// refused one no call is answered.
+// refused one no call is answered, and everything is as it was. It is to `answer_all` what `engine::play` is to `replay`.
 pub fn open_and_answer<M: MarginModel>(
     model: &M,
     house: &mut House,
@@ -55,7 +55,13 @@ pub fn open_and_answer<M: MarginModel>(
     answers: &mut [Answer],
 ) -> u8
     ensures number { result ≡ result_number (first_no (opening_questions accounts month records.old trades.old)) }
+    ensures accounts { house.new.accounts ≡ decided (first_no (opening_questions accounts month records.old trades.old)) accounts (λ e. house.old.accounts) }
+    ensures market { house.new.market.state ≡ decided (first_no (opening_questions accounts month records.old trades.old)) (opened_market month) (λ e. house.old.market.state) }
+    ensures rows { records.new ≡ decided (first_no (opening_questions accounts month records.old trades.old)) (tables_after (M.meaning model.now) accounts month (take (min (length calls.now) (length answers.old)) calls.now)).0 (λ e. records.old) }
+    ensures trades { trades.new ≡ decided (first_no (opening_questions accounts month records.old trades.old)) (tables_after (M.meaning model.now) accounts month (take (min (length calls.now) (length answers.old)) calls.now)).1 (λ e. trades.old) }
     ensures answers { result ≡ 0 → take (min (length calls.now) (length answers.old)) answers.new ≡ answers_run (M.meaning model.now) (opened_market month) accounts (opened_rows accounts, opened_trades accounts) (take (min (length calls.now) (length answers.old)) calls.now) }
+    ensures rest { result ≡ 0 → drop (min (length calls.now) (length answers.old)) answers.new ≡ drop (min (length calls.now) (length answers.old)) answers.old }
+    ensures refused { result ≢ 0 → answers.new ≡ answers.old }
 {
     let number = open(house, accounts, month, records, trades);
     if number == 0 {

@@ -1,4 +1,5 @@
--- What a fault prints: the number of the record, the word "fault", its number and its place, with a blank (byte 32) between two.
+-- What a fault prints.
+--   fault_text   the number of the record, the word "fault", its number and its place, with a blank (byte 32) between two
 use Rattle.std.specs.Prelude.{ℕ, List, [], ◌∷◌, codes}
 use Rattle.std.specs.List.{join_with_byte}
 use Rattle.std.specs.Fmt.{decimal}

@@ -3,10 +3,11 @@
 --   draws            the bytes of two draws, of 1,500,000 and 1,000,000
 --   five             the file of these five records
 --   fault            a fault of a record, a reason and a first byte
---   WorkedFile       a file of five records is read as five events, with no fault
+--   WorkedFile       a file of five records is read as five events, with no fault, and is the encoding of these events
 --   WorkedFaults     small files, and the fault of each: its record, reason and first byte
 use Rattle.std.specs.Prelude.{◌≡◌, ℕ, List, [], ◌∷◌, take, Some, None, Option}
 use Rattle.events.specs.Files.{events_of, fault_of}
+use Rattle.events.specs.Encoded.{encode_all}
 use Rattle.events.specs.declared.event.Event.TheVariants.{Open, Trade, LodgeCash, DrawCash}
 use Rattle.events.specs.declared.fault.Fault.{Fault}
 use Rattle.events.specs.declared.fault.FaultReason.{FaultReason}
@@ -32,6 +33,7 @@ abbrev pub WorkedFile : Type 0
 WorkedFile =
     (events_of five ≡ Open 2 300 ∷ LodgeCash 1 6000000 ∷ Trade 1 7 0 0 312 100 0 ∷ DrawCash 1 1500000 ∷ DrawCash 1 1000000 ∷ [])
     × (fault_of five ≡ None)
+    × (encode_all (events_of five) ≡ five)
 
 abbrev pub fault : ℕ → FaultReason → ℕ → Option Fault
 fault n w i = Some (record { ordinal = n; reason = w; offset = i })

@@ -1,6 +1,7 @@
 -- A market call on the tables, and by the rules.
-use Rattle.std.proofs.Common.{◌≡◌, ℕ, ◌≤◌, true, List, [], ◌∷◌, map, length, get_or, drop, None, Ok, Err, Option, Result, sym, refl, ap, ◌∙◌, ap₂, arith}
+use Rattle.std.proofs.Common.{◌≡◌, ℕ, ◌≤◌, true, List, [], ◌∷◌, map, length, get_or, drop, None, Ok, Err, Option, Result, sym, ap, ◌∙◌, arith}
 use mathlib.Core.List.{map-map}
+use Rattle.std.proofs.lemmas.List.{map-id}
 use Rattle.models.specs.Meaning.{Meaning}
 use Rattle.refusals.specs.declared.refusal.Refusal.{Refusal}
 use Rattle.refusals.specs.Refusals.{first_no, decided, result_number}
@@ -21,8 +22,7 @@ use Rattle.house.proofs.Lent.{rows_stand, trades_stand}
 
 -- where no month begins, no book changes before it settles
 pub unaged : (o : Option ℕ) (bs : List Book) → o ≡ None → bs ≡ map (aged_by o) bs
-unaged o [] e = refl
-unaged o (b ∷ bs) e = ap₂ (λ (x : Book) (l : List Book). x ∷ l) (ap (λ (p : Option ℕ). aged_by p b) (sym e)) (unaged o bs e)
+unaged o bs e = sym (ap (λ (p : Option ℕ). map (aged_by p) bs) e ∙ map-id bs)
 
 -- every book aged, and then every constituent settled
 passed : (m : Meaning) (k : MarketState) (c : MarketCall) (bs : List Book) → 1 ≤ length bs

@@ -1,10 +1,12 @@
 -- What the tables hold when they are settled is what the rules make of the stand that they held.
-use Rattle.std.proofs.Common.{◌≡◌, ℕ, suc, ◌+◌, ◌-◌, ◌*◌, ◌≤◌, Bool, true, false, List, [], ◌∷◌, ◌++◌, map, length, get_or, take, drop, set, fold, sum_by, sym, refl, ap, ◌∙◌, subst, ap₂, append-nil, arith, take_all}
+use Rattle.std.proofs.Common.{◌≡◌, ℕ, suc, ◌+◌, ◌-◌, ◌*◌, ◌≤◌, Bool, true, false, List, [], ◌∷◌, ◌++◌, map, length, get_or, take, drop, set, sum_by, sym, refl, ap, ◌∙◌, subst, ap₂, append-nil, arith, take_all}
 use lib.ListN.{length-map}
 use borrow.Rule.Slice.PartMut.{put_mid}
 use Rattle.std.specs.List.{All, list_all}
 use Rattle.std.proofs.lemmas.List.Elements.{All-nil, All-map}
+use mathlib.Core.List.{map-map}
 use Rattle.std.proofs.lemmas.List.{drop_all}
+use Rattle.std.proofs.lemmas.List.Folds.{fold-map}
 use Rattle.models.specs.Meaning.{Meaning}
 use Rattle.tables.specs.declared.row.AccountRow.{AccountRow}
 use Rattle.tables.specs.declared.row.TradeRow.{TradeRow}
@@ -17,15 +19,16 @@ use Rattle.market.specs.declared.state.MarketState.{MarketState}
 use Rattle.rules.specs.Rows.{with_second}
 use Rattle.rules.specs.Settling.{settled_row, house_settled, row_reflagged, reflagged}
 use Rattle.rules.specs.Stands.{standing, finish, rows_of, trades_of, shortfalls}
+use Rattle.accounts.proofs.Steps.{settled_count}
 
 -- the cover, out of the records
-sum_books : (cs : List AccountRow) (us : List TradeRow) (n : ℕ) → fold (λ (x : ℕ) (r : AccountRow). x + r.shortfall) n cs ≡ fold (λ (x : ℕ) (b : Book). x + b.row.shortfall) n (books_of cs us)
-sum_books [] us n = refl
-sum_books (c ∷ cs) us n = sum_books cs (drop 64 us) (n + c.shortfall)
+sum_books : (cs : List AccountRow) (us : List TradeRow) → sum_by (λ (r : AccountRow). r.shortfall) cs ≡ shortfalls (books_of cs us)
+sum_books cs us =
+    ap (sum_by (λ (r : AccountRow). r.shortfall)) (sym (rows_back cs us)) ∙ fold-map (λ (x : ℕ) (r : AccountRow). x + r.shortfall) (λ (b : Book). b.row) 0 (books_of cs us)
 
 pub rows_reflagged : (r : Bool) (cs : List AccountRow) (us : List TradeRow) → rows_in (map (reflagged r) (books_of cs us)) ≡ map (row_reflagged r) cs
-rows_reflagged r [] us = refl
-rows_reflagged r (c ∷ cs) us = ap (λ (l : List AccountRow). row_reflagged r c ∷ l) (rows_reflagged r cs (drop 64 us))
+rows_reflagged r cs us =
+    map-map (λ (b : Book). b.row) (reflagged r) (books_of cs us) ∙ sym (map-map (row_reflagged r) (λ (b : Book). b.row) (books_of cs us)) ∙ ap (map (row_reflagged r)) (rows_back cs us)
 
 pub books_reflagged : (r : Bool) (cs : List AccountRow) (us : List TradeRow) → books_of (map (row_reflagged r) cs) us ≡ map (reflagged r) (books_of cs us)
 books_reflagged r [] us = refl
@@ -57,10 +60,6 @@ shortfalls_fit n (r ∷ rs) ts h =
     subst (All fits) (rows_back rs (drop 64 ts))
     (All-map fits (λ (b : Book). b.row) bs (all_from constituent_keeps (λ b. b.row.shortfall ≤ 3000000000000000) short_fits bs (kept n (r ∷ rs) ts h).constituents))
 
-counted : (m : Meaning) (k : MarketState) (cover : ℕ) (r : AccountRow) (ts : List TradeRow) (own : AccountRow) → own ≡ with_second (settled_row m k cover r (take r.trades (take 64 ts))) false → own.trades ≡ r.trades
-unfolding settled_row
-counted m k cover r ts own e = ap (λ (q : AccountRow). q.trades) e
-
 pub finished : (m : Meaning) (k : MarketState) (n cover : ℕ) (rs ys : List AccountRow) (ts : List TradeRow) (own : AccountRow) → 1 ≤ length rs → tables_keep n rs ts ≡ true
     → cover ≡ sum_by (λ r. r.shortfall) (drop 1 rs)
     → own ≡ with_second (settled_row m k cover (get_or rs 0 no_row) (take (get_or rs 0 no_row).trades (places_at ts 0))) false
@@ -73,10 +72,10 @@ finished m k n cover (r ∷ cs) ys ts own some h ec eo held fits ey =
     let s = kept n (r ∷ cs) ts h in
     let e : put_mid 1 (length (own ∷ cs) - 1) (own ∷ cs) ys ≡ own ∷ map (row_reflagged own.own) cs =
     put_rest own cs ys ∙ ap (λ (l : List AccountRow). own ∷ l) (ey ∙ ap (map (row_reflagged own.own)) (take_all (length (own ∷ cs) - 1) cs (omega arith))) in
-    let c : cover ≡ shortfalls (books_of cs (drop 64 ts)) = ec ∙ sum_books cs (drop 64 ts) 0 in
+    let c : cover ≡ shortfalls (books_of cs (drop 64 ts)) = ec ∙ sum_books cs (drop 64 ts) in
     let settled : own ≡ (house_settled m k (shortfalls (books_of cs (drop 64 ts))) (book r (take 64 ts))).row =
     eo ∙ ap (λ (x : ℕ). (house_settled m k x (book r (take 64 ts))).row) c in
-    let count : own.trades ≡ r.trades = counted m k cover r ts own eo in (
+    let count : own.trades ≡ r.trades = ap (λ (q : AccountRow). q.trades) eo ∙ settled_count m k cover r (take r.trades (take 64 ts)) _ refl in (
       e
           ∙ ap₂ (λ (q : AccountRow) (l : List AccountRow). q ∷ l) settled (sym (rows_reflagged own.own cs (drop 64 ts)))
           ∙ ap (λ (q : AccountRow). (house_settled m k (shortfalls (books_of cs (drop 64 ts))) (book r (take 64 ts))).row ∷ rows_in (map (reflagged q.own) (books_of cs (drop 64 ts)))) settled,
@@ -95,4 +94,4 @@ finished m k n cover (r ∷ cs) ys ts own some h ec eo held fits ey =
 -- the cover, out of the records
 pub cover_books : (rs : List AccountRow) (ts : List TradeRow) → sum_by (λ (r : AccountRow). r.shortfall) (drop 1 rs) ≡ shortfalls (drop 1 (books_of rs ts))
 cover_books [] ts = refl
-cover_books (r ∷ rs) ts = sum_books rs (drop 64 ts) 0
+cover_books (r ∷ rs) ts = sum_books rs (drop 64 ts)

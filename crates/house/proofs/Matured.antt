@@ -1,7 +1,7 @@
 -- A book without its matured trades: it is what the code leaves, and within its limits.
-use Rattle.std.proofs.Common.{◌≡◌, ℕ, ◌-◌, ◌≤◌, true, not, ◌&&◌, leb, List, length, drop, replicate, filter, refl, ap, ◌∙◌, arith, length-append, length-take, take_at, drop_at}
+use Rattle.std.proofs.Common.{◌≡◌, ℕ, ◌-◌, ◌≤◌, true, ◌&&◌, leb, List, length, drop, replicate, filter, refl, ap, ◌∙◌, arith, length-append, length-take, take_at, drop_at}
 use lib.ListN.{length-replicate}
-use Rattle.std.proofs.lemmas.List.Filters.{length-filter_both}
+use Rattle.std.proofs.lemmas.List.Sums.{length-filter, count_by-le-length}
 use Rattle.std.proofs.lemmas.Bool.{and_parts, and_from, le-leb}
 use Rattle.tables.specs.declared.row.TradeRow.{TradeRow}
 use Rattle.tables.specs.Books.{Book, standing_of}
@@ -14,7 +14,7 @@ use Rattle.rules.specs.MarketCalls.{running, closed_up, matured_out}
 
 -- no more trades are left than stood
 left_few : (month : ℕ) (b : Book) → length b.places ≡ 64 → length (filter (running month) (standing_of b)) ≤ 64
-left_few month b long = omega (arith, length-filter_both (running month) (λ t. not (running month t)) (λ t. refl) (standing_of b), length-take b.row.trades b.places)
+left_few month b long = omega (arith, length-filter (running month) (standing_of b), count_by-le-length (running month) (standing_of b), length-take b.row.trades b.places)
 
 pub matured_long : (month : ℕ) (b : Book) → length b.places ≡ 64 → length (matured_out month b).places ≡ 64
 unfolding matured_out

@@ -68,7 +68,7 @@ fn write_book(records: &mut [AccountRow], trades: &mut [TradeRow], account: usiz
     requires { (account < length records.old) × (64 * account + 64 ≤ length trades.old) }
     ensures rows { records.new ≡ slice_set records.old account held.now.row }
     ensures trades { trades.new ≡ put_places trades.old account held.now.places }
-    ensures long { length held.now.places ≡ 64 }
+    ensures len { length held.now.places ≡ 64 }
 {
     records[account] = held.row();
     let places = held.places();

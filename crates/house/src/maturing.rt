@@ -12,7 +12,7 @@ use tables::row::{AccountRow, NO_TRADE, TradeRow};
 fn keep_running(trades: &mut [TradeRow], month: u16) -> usize
     ensures front { take result trades.new ≡ filter (running month) trades.old }
     ensures bound { result ≤ length trades.old }
-    ensures long { length trades.new ≡ length trades.old }
+    ensures len { length trades.new ≡ length trades.old }
 {
     let mut running = 0;
     for i in 0..trades.len() {

@@ -24,11 +24,7 @@ fn sum_shortfalls(rows: &[AccountRow]) -> u64
     ensures value { result ≡ sum_by (λ q. q.shortfall) rows.now }
     ensures bound { result ≤ 93000000000000000 }
 {
-    let mut sum = 0;
-    for row in rows {
-        sum += row.shortfall;
-    }
-    sum
+    rows.iter().map(|row| row.shortfall).sum()
 }
 
 // A record's second flag, at the house's restriction.

@@ -1,25 +1,19 @@
 -- The cover is the sum of what the constituents lack, and the house's obligation carries it.
-use Rattle.std.proofs.Common.{◌≡◌, ℕ, ◌+◌, false, List, [], ◌∷◌, map, slice_index_or, slice_set, Ok, Err, fold, Result, sym, refl, ap, ◌∙◌, subst}
+use Rattle.std.proofs.Common.{◌≡◌, ℕ, ◌+◌, false, List, [], ◌∷◌, map, slice_index_or, slice_set, fold, sym, refl, ap, ◌∙◌, subst}
 use Rattle.std.specs.List.{All}
 use Rattle.std.proofs.lemmas.List.Elements.{All-head, All-tail, All-set, All-map, All-from_get_or}
 use Rattle.models.specs.Meaning.{Meaning}
-use Rattle.refusals.specs.declared.refusal.Refusal.{Refusal}
-use Rattle.refusals.specs.Refusals.{first_no}
 use Rattle.tables.specs.Books.{Book, no_book}
-use Rattle.market.specs.declared.call.MarketCall.{MarketCall}
 use Rattle.market.specs.declared.state.MarketState.{MarketState}
-use Rattle.market.specs.Calls.{market_questions, market_changed}
-use Rattle.rules.specs.declared.call.AccountCall.{AccountCall}
-use Rattle.rules.specs.declared.call.Call.TheVariants.{Account, Market}
+use Rattle.market.specs.Calls.{market_changed}
 use Rattle.rules.specs.declared.call.Event.{Event}
-use Rattle.rules.specs.declared.call.Event.TheVariants.{RightTables, WrongTables}
 use Rattle.rules.specs.Changes.{changed}
 use Rattle.rules.specs.Settling.{settled_row, settled, reflagged}
-use Rattle.rules.specs.Stands.{Stand, Verdict, refused, granted, finish, after_account}
+use Rattle.rules.specs.Stands.{Stand, finish}
 use Rattle.rules.specs.MarketCalls.{aged}
 use Rattle.isolation.specs.Runs.{after, run}
 use Rattle.isolation.specs.Isolation.{lacking, Covered}
-use Rattle.isolation.proofs.Steps.{house_after, constituent_after, market_after, house_verdict, constituent_verdict, account_cases, Rests}
+use Rattle.isolation.proofs.Steps.{announced, after_cases, Rests}
 use Rattle.isolation.proofs.Ledgers.{granted_asked}
 
 -- the stored shortfall is what the account lacks
@@ -39,31 +33,17 @@ settled_short m k x b = refl
 finish_short : (m : Meaning) (s : Stand) → Short s → Short (finish m s)
 finish_short m s h = All-map IsShort (reflagged (finish m s).house.row.own) s.constituents h
 
-house_short : (m : Meaning) (s : Stand) (v : Verdict Book) → Short s → Short (house_after m s v)
-house_short m s (refused e) h = h
-house_short m s (granted b) h = finish_short m (record { market = s.market; house = b; constituents = s.constituents }) h
-
-constituent_short : (m : Meaning) (s : Stand) (j : ℕ) (v : Verdict Book) → ((y : Book) → v ≡ granted y → IsShort y) → Short s → Short (constituent_after m s j v)
-constituent_short m s j (refused e) g h = h
-constituent_short m s j (granted b) g h =
-    finish_short m (record { market = s.market; house = s.house; constituents = slice_set s.constituents j b }) (All-set IsShort s.constituents j b (g b refl) h)
-
-market_short : (m : Meaning) (s : Stand) (c : MarketCall) (r : Result (Unit {0}) Refusal) → Short s → Short (market_after m s c r)
-market_short m s c (Err e) h = h
-market_short m s c (Ok x) h =
-    let k = market_changed c s.market in
-    let f : Book → Book = λ b. settled m k 0 (aged c b) in
-    finish_short m (record { market = k; house = aged c s.house; constituents = map f s.constituents }) (each_short f (λ b. settled_short m k 0 (aged c b)) s.constituents)
-
-account_short : (m : Meaning) (s : Stand) (i : ℕ) (c : AccountCall) → Short s → Short (after_account m s i c)
-account_short m s i c h =
-    account_cases m s i c Short h (λ e. house_short m s (house_verdict m s c) h)
-    (λ j e l. constituent_short m s j (constituent_verdict m s j c) (λ y v. subst IsShort (sym (granted_asked m s.market false 0 (slice_index_or s.constituents j no_book) y c v).1) (settled_short m s.market 0 (changed c (slice_index_or s.constituents j no_book)))) h)
-
 pub short_after : (m : Meaning) (s : Stand) (e : Event) → Short s → Short (after m s e)
-short_after m s (WrongTables c) h = h
-short_after m s (RightTables (Account c)) h = account_short m s c.account c.call h
-short_after m s (RightTables (Market c)) h = market_short m s c (first_no (market_questions m.sets s.market c)) h
+short_after m s e h =
+    after_cases m s Short h
+    (λ b. finish_short m (record { market = s.market; house = b; constituents = s.constituents }) h)
+    (λ j c b v.
+    let own = slice_index_or s.constituents j no_book in
+    let fits : IsShort b = subst IsShort (sym (granted_asked m s.market false 0 own b c v).1) (settled_short m s.market 0 (changed c own)) in
+    finish_short m (record { market = s.market; house = s.house; constituents = slice_set s.constituents j b }) (All-set IsShort s.constituents j b fits h))
+    (λ c.
+    let k = market_changed c s.market in
+    finish_short m (announced m s c) (each_short (λ b. settled m k 0 (aged c b)) (λ b. settled_short m k 0 (aged c b)) s.constituents)) e
 
 pub short_run : (m : Meaning) (s : Stand) (es : List Event) → Short s → Short (run m s es)
 short_run m s [] h = h

@@ -2,7 +2,7 @@
 use Rattle.std.proofs.Common.{◌≡◌, ℕ, zero, suc, ◌+◌, ◌<◌, Bool, true, false, if◌then◌else◌, nat_eq, ◌⊎◌, List, [], ◌∷◌, map, length, slice_index_or, slice_set, Some, None, Ok, Err, Option, Result, sym, refl, ap, ◌∙◌, subst, ap₂, inl, inr, arith, length-set, get_or-set_other, get_or-set_same}
 use lib.ListN.{length-map}
 use Rattle.std.proofs.lemmas.List.{get_or-map}
-use Rattle.std.proofs.lemmas.Bool.{eq-eqb, ne_eqb, cases_eq, cond-true, cond-false}
+use Rattle.std.proofs.lemmas.Bool.{eq-eqb, ne_eqb, cases_eq, cond-true, cond-false, cond_both}
 use Rattle.models.specs.Meaning.{Meaning}
 use Rattle.refusals.specs.declared.refusal.Refusal.{Refusal}
 use Rattle.refusals.specs.Refusals.{first_no, decided, number_of}
@@ -26,7 +26,7 @@ use Rattle.rules.specs.Calls.{reply_number}
 use Rattle.rules.specs.MarketCalls.{matured_out, aged_by, new_month, aged}
 use Rattle.isolation.specs.Runs.{after, reply, run, replies, moved, accepted}
 use Rattle.isolation.specs.Isolation.{book_of}
-use Rattle.isolation.proofs.Steps.{house_after, constituent_after, market_after, house_verdict, constituent_verdict, house_steps, house_replies, constituent_steps, constituent_replies, account_cases, length_after}
+use Rattle.isolation.proofs.Steps.{house_after, constituent_after, announced, market_after, house_verdict, constituent_verdict, house_steps, house_replies, constituent_steps, constituent_replies, account_cases, length_after}
 
 -- a granted call was asked, and leaves the book as it settles with the change
 pub granted_asked : (m : Meaning) (k : MarketState) (h : Bool) (x : ℕ) (b y : Book) (c : AccountCall) → ordered m k h x b c ≡ granted y → (first_no (asked_before k b c) ≡ Ok tt) × (y ≡ tried m k x b c)
@@ -71,11 +71,6 @@ finish_same m s (suc j) l =
 
 through : (a b c : Book) → Same a b → Same b c → Same a c
 through a b c p q = (p.0 ∙ q.0, p.1 ∙ q.1)
-
--- the stand that a market call leaves before it is settled
-abbrev announced : Meaning → Stand → MarketCall → Stand
-announced m s c =
-    record { market = market_changed c s.market; house = aged c s.house; constituents = map (λ (b : Book). settled m (market_changed c s.market) 0 (aged c b)) s.constituents }
 
 announced_same : (m : Meaning) (s : Stand) (c : MarketCall) (i : ℕ) → i < length (books_in s) → Same (book_of (finish m (announced m s c)) i) (book_of s i)
 announced_same m s c zero l =
@@ -133,8 +128,7 @@ module _ (L : Ledger) (m : Meaning) (i : ℕ) where
 
   -- nothing moves
   none : (b : Bool) → ◌≡◌ {A = ℕ} (if b then 0 else 0) 0
-  none true = refl
-  none false = refl
+  none b = cond_both b 0 0 (λ (n : ℕ). n ≡ 0) (λ t. refl) (λ f. refl)
 
   abbrev Goes : Stand → Stand → Event → Reply → Type 0
   Goes s t e o = (held t + counted L.out e o ≡ held s + counted L.into e o) × Fits t

@@ -1,10 +1,9 @@
 -- What an account call leaves of the accounts that it does not name.
-use Rattle.std.proofs.Common.{◌≡◌, ℕ, zero, suc, ◌<◌, ◌≤◌, Bool, false, if◌then◌else◌, nat_eq, ◌⊎◌, length, slice_set, sym, refl, ap, ◌∙◌, subst, ap₂, inl, inr, arith, length-set, get_or-set_other}
+use Rattle.std.proofs.Common.{◌≡◌, ℕ, zero, suc, ◌<◌, ◌≤◌, Bool, false, if◌then◌else◌, nat_eq, ◌⊎◌, length, slice_set, sym, refl, ap, ◌∙◌, subst, ap₂, inl, inr, length-set, get_or-set_other}
 use Rattle.std.proofs.lemmas.List.{get_or-map}
-use Rattle.std.proofs.lemmas.Bool.{ne_eqb, le-ltb, cond-false, cases_lt}
+use Rattle.std.proofs.lemmas.Bool.{ne_eqb, cond-false, cases_lt}
 use Rattle.models.specs.Meaning.{Meaning}
 use Rattle.refusals.specs.declared.refusal.Refusal.{Refusal}
-use Rattle.refusals.specs.declared.refusal.Refusal.TheVariants.{NoAccount}
 use Rattle.refusals.specs.Refusals.{number_of}
 use Rattle.refusals.proofs.Facts.{refusal_some}
 use Rattle.tables.specs.Books.{Book, no_book}
@@ -12,11 +11,11 @@ use Rattle.market.specs.declared.state.MarketState.{MarketState}
 use Rattle.rules.specs.declared.call.AccountCall.{AccountCall}
 use Rattle.rules.specs.declared.call.Answer.{Answer}
 use Rattle.rules.specs.Settling.{house_settled, reflagged}
-use Rattle.rules.specs.Stands.{Stand, Verdict, refused, granted, books_in, cover_of, finish, after_account}
-use Rattle.rules.specs.Outcomes.{verdict_number, account_reply, blank_answer}
+use Rattle.rules.specs.Stands.{Stand, Verdict, refused, granted, cover_of, finish, after_account}
+use Rattle.rules.specs.Outcomes.{verdict_number, account_reply}
 use Rattle.rules.proofs.Resting.{cover_reflagged}
 use Rattle.isolation.specs.Isolation.{book_of}
-use Rattle.isolation.proofs.Steps.{house_after, constituent_after, house_verdict, constituent_verdict, house_steps, house_replies, constituent_steps, constituent_replies, absent_steps}
+use Rattle.isolation.proofs.Steps.{house_after, constituent_after, house_verdict, constituent_verdict, house_steps, house_replies, constituent_steps, constituent_replies, absent_steps, absent_replies}
 
 abbrev pub left_book : Bool → Bool → Book → Book
 left_book accepted restricted b = (if accepted then reflagged restricted b else b)
@@ -53,9 +52,8 @@ others_left m s (suc i) c j l ne = go (cases_lt i (length s.constituents))
         ap (λ (t : Stand). book_of t (suc j)) (constituent_steps m s c i h) ∙ constituent_leaves m s j i (constituent_verdict m s i c) l (λ e. ne (ap suc e))
         ∙ ap₂ (λ (n : ℕ) (t : Stand). left_book (nat_eq n 0) t.house.row.own (book_of s (suc j))) (sym (ap (λ (a : Answer). a.number) (constituent_replies m s c i h))) (sym (constituent_steps m s c i h))
     go (inr h) =
-        let two : account_reply m s (suc i) c ≡ blank_answer (number_of NoAccount) = cond-false _ _ (blank_answer (number_of NoAccount)) (le-ltb (suc i) (length (books_in s)) (omega arith)) in
         ap (λ (t : Stand). book_of t (suc j)) (absent_steps m s c i h)
-        ∙ ap (λ (n : ℕ). left_book (nat_eq n 0) (after_account m s (suc i) c).house.row.own (book_of s (suc j))) (sym (ap (λ (a : Answer). a.number) two))
+        ∙ ap (λ (n : ℕ). left_book (nat_eq n 0) (after_account m s (suc i) c).house.row.own (book_of s (suc j))) (sym (ap (λ (a : Answer). a.number) (absent_replies m s c i h)))
 
 -- the house's book after a call on a constituent
 abbrev pub left_house : Meaning → MarketState → Bool → ℕ → Book → Book
@@ -78,6 +76,5 @@ house_kept m s (suc i) c ne = go (cases_lt i (length s.constituents))
         ap (λ (t : Stand). t.house) (constituent_steps m s c i h) ∙ constituent_settles m s i (constituent_verdict m s i c)
         ∙ ap₂ (λ (n : ℕ) (t : Stand). left_house m s.market (nat_eq n 0) (cover_of t) s.house) (sym (ap (λ (a : Answer). a.number) (constituent_replies m s c i h))) (sym (constituent_steps m s c i h))
     go (inr h) =
-        let two : account_reply m s (suc i) c ≡ blank_answer (number_of NoAccount) = cond-false _ _ (blank_answer (number_of NoAccount)) (le-ltb (suc i) (length (books_in s)) (omega arith)) in
         ap (λ (t : Stand). t.house) (absent_steps m s c i h)
-        ∙ ap (λ (n : ℕ). left_house m s.market (nat_eq n 0) (cover_of (after_account m s (suc i) c)) s.house) (sym (ap (λ (a : Answer). a.number) two))
+        ∙ ap (λ (n : ℕ). left_house m s.market (nat_eq n 0) (cover_of (after_account m s (suc i) c)) s.house) (sym (ap (λ (a : Answer). a.number) (absent_replies m s c i h)))

@@ -29,6 +29,11 @@ abbrev pub constituent_after : Meaning → Stand → ℕ → Verdict Book → St
 constituent_after m s j (refused e) = s
 constituent_after m s j (granted b) = finish m (record { market = s.market; house = s.house; constituents = slice_set s.constituents j b })
 
+-- the stand that a market call leaves before it is settled
+abbrev pub announced : Meaning → Stand → MarketCall → Stand
+announced m s c =
+    record { market = market_changed c s.market; house = aged c s.house; constituents = map (λ (b : Book). settled m (market_changed c s.market) 0 (aged c b)) s.constituents }
+
 abbrev pub market_after : Meaning → Stand → MarketCall → Result (Unit {0}) Refusal → Stand
 market_after m s c r = decided r (all_settled m (market_changed c s.market) c s) (λ e. s)
 
@@ -76,6 +81,9 @@ module _ (m : Meaning) (s : Stand) (c : AccountCall) where
     pub absent_steps : length s.constituents ≤ j → after_account m s (suc j) c ≡ s
     absent_steps l = cond-false (nat_lt (suc j) (length (books_in s))) (concluded m s (suc j) (verdict m s (suc j) c)) s (le-ltb (suc j) (length (books_in s)) (omega arith))
 
+    pub absent_replies : length s.constituents ≤ j → account_reply m s (suc j) c ≡ blank_answer (number_of NoAccount)
+    absent_replies l = cond-false (nat_lt (suc j) (length (books_in s))) _ (blank_answer (number_of NoAccount)) (le-ltb (suc j) (length (books_in s)) (omega arith))
+
 -- what holds of the stand after any account call: account 0 is the house, and beyond the constituents is no account
 pub account_cases : (m : Meaning) (s : Stand) (i : ℕ) (c : AccountCall) (P : Stand → Type 0) → P s → (i ≡ 0 → P (house_after m s (house_verdict m s c)))
     → ((j : ℕ) → i ≡ suc j → j < length s.constituents → P (constituent_after m s j (constituent_verdict m s j c))) → P (after_account m s i c)
@@ -86,31 +94,34 @@ account_cases m s (suc j) c P same house other = go (cases_lt j (length s.consti
     go (inl l) = subst P (sym (constituent_steps m s c j l)) (other j refl l)
     go (inr l) = subst P (sym (absent_steps m s c j l)) same
 
+-- what holds of a stand holds of it after any event, if it holds where a book is granted to the house or a constituent, or a market call
+pub after_cases : (m : Meaning) (s : Stand) (P : Stand → Type 0) → P s → ((b : Book) → P (house_after m s (granted b)))
+    → ((j : ℕ) (c : AccountCall) (b : Book) → constituent_verdict m s j c ≡ granted b → P (constituent_after m s j (granted b))) → ((c : MarketCall) → P (finish m (announced m s c)))
+    → (e : Event) → P (after m s e)
+after_cases m s P same house other turned (WrongTables c) = same
+after_cases m s P same house other turned (RightTables (Account c)) =
+    account_cases m s c.account c.call P same (λ e. by_house (house_verdict m s c.call)) (λ j e l. by_constituent j (constituent_verdict m s j c.call) refl)
+  where
+    by_house : (v : Verdict Book) → P (house_after m s v)
+    by_house (refused e) = same
+    by_house (granted b) = house b
+
+    by_constituent : (j : ℕ) (v : Verdict Book) → constituent_verdict m s j c.call ≡ v → P (constituent_after m s j v)
+    by_constituent j (refused e) is = same
+    by_constituent j (granted b) is = other j c.call b is
+after_cases m s P same house other turned (RightTables (Market c)) = by_market (first_no (market_questions m.sets s.market c))
+  where
+    by_market : (r : Result (Unit {0}) Refusal) → P (market_after m s c r)
+    by_market (Ok x) = turned c
+    by_market (Err e) = same
+
 -- a stand at rest: settling it once more changes nothing
 abbrev pub Rests : Meaning → Stand → Type 0
 Rests m s = finish m s ≡ s
 
-house_rests_after : (m : Meaning) (s : Stand) (v : Verdict Book) → Rests m s → Rests m (house_after m s v)
-house_rests_after m s (refused e) k = k
-house_rests_after m s (granted b) k = finish_rests m _
-
-constituent_rests_after : (m : Meaning) (s : Stand) (j : ℕ) (v : Verdict Book) → Rests m s → Rests m (constituent_after m s j v)
-constituent_rests_after m s j (refused e) k = k
-constituent_rests_after m s j (granted b) k = finish_rests m _
-
-market_rests_after : (m : Meaning) (s : Stand) (c : MarketCall) (r : Result (Unit {0}) Refusal) → Rests m s → Rests m (market_after m s c r)
-market_rests_after m s c (Ok x) k = finish_rests m _
-market_rests_after m s c (Err e) k = k
-
-account_rests : (m : Meaning) (s : Stand) (i : ℕ) (c : AccountCall) → Rests m s → Rests m (after_account m s i c)
-account_rests m s i c k =
-    account_cases m s i c (Rests m) k (λ e. house_rests_after m s (house_verdict m s c) k) (λ j e l. constituent_rests_after m s j (constituent_verdict m s j c) k)
-
 -- a stand stays at rest
 pub rests_after : (m : Meaning) (s : Stand) (e : Event) → Rests m s → Rests m (after m s e)
-rests_after m s (WrongTables c) k = k
-rests_after m s (RightTables (Account c)) k = account_rests m s c.account c.call k
-rests_after m s (RightTables (Market c)) k = market_rests_after m s c (first_no (market_questions m.sets s.market c)) k
+rests_after m s e k = after_cases m s (Rests m) k (λ b. finish_rests m _) (λ j c b v. finish_rests m _) (λ c. finish_rests m _) e
 
 pub rests_run : (m : Meaning) (s : Stand) (es : List Event) → Rests m s → Rests m (run m s es)
 rests_run m s [] k = k
@@ -120,31 +131,9 @@ rests_run m s (e ∷ es) k = rests_run m (after m s e) es (rests_after m s e k)
 finish_length : (m : Meaning) (s : Stand) → length (finish m s).constituents ≡ length s.constituents
 finish_length m s = length-map s.constituents (reflagged (finish m s).house.row.own)
 
-house_length : (m : Meaning) (s : Stand) (v : Verdict Book) → length (house_after m s v).constituents ≡ length s.constituents
-house_length m s (refused e) = refl
-house_length m s (granted b) = finish_length m (record { market = s.market; house = b; constituents = s.constituents })
-
-constituent_length : (m : Meaning) (s : Stand) (j : ℕ) (v : Verdict Book) → length (constituent_after m s j v).constituents ≡ length s.constituents
-constituent_length m s j (refused e) = refl
-constituent_length m s j (granted b) =
-    finish_length m (record { market = s.market; house = s.house; constituents = slice_set s.constituents j b }) ∙ length-set s.constituents j b
-
-market_length : (m : Meaning) (s : Stand) (c : MarketCall) (r : Result (Unit {0}) Refusal) → length (market_after m s c r).constituents ≡ length s.constituents
-market_length m s c (Ok x) =
-    let k = market_changed c s.market in
-    finish_length m (record { market = k; house = aged c s.house; constituents = map (λ (b : Book). settled m k 0 (aged c b)) s.constituents })
-    ∙ length-map s.constituents (λ (b : Book). settled m k 0 (aged c b))
-market_length m s c (Err e) = refl
-
-account_length : (m : Meaning) (s : Stand) (i : ℕ) (c : AccountCall) → length (after_account m s i c).constituents ≡ length s.constituents
-account_length m s i c =
-    account_cases m s i c (λ (t : Stand). length t.constituents ≡ length s.constituents) refl (λ e. house_length m s (house_verdict m s c)) (λ j e l. constituent_length m s j (constituent_verdict m s j c))
-
 pub length_after : (m : Meaning) (s : Stand) (e : Event) → length (after m s e).constituents ≡ length s.constituents
-length_after m s (WrongTables c) = refl
-length_after m s (RightTables (Account c)) = account_length m s c.account c.call
-length_after m s (RightTables (Market c)) = market_length m s c (first_no (market_questions m.sets s.market c))
-
-pub length_run : (m : Meaning) (s : Stand) (es : List Event) → length (run m s es).constituents ≡ length s.constituents
-length_run m s [] = refl
-length_run m s (e ∷ es) = length_run m (after m s e) es ∙ length_after m s e
+length_after m s e =
+    after_cases m s (λ (t : Stand). length t.constituents ≡ length s.constituents) refl
+    (λ b. finish_length m (record { market = s.market; house = b; constituents = s.constituents }))
+    (λ j c b v. finish_length m (record { market = s.market; house = s.house; constituents = slice_set s.constituents j b }) ∙ length-set s.constituents j b)
+    (λ c. finish_length m (announced m s c) ∙ length-map s.constituents (λ (b : Book). settled m (market_changed c s.market) 0 (aged c b))) e

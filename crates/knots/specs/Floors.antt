@@ -1,4 +1,5 @@
--- The floor of a quotient is the quotient rounded down. Assumes nothing.
+-- The floor of a quotient. Assumes nothing.
+--   floor_down   it is the quotient rounded down, also below zero
 use Rattle.std.proofs.Common.{◌≡◌, ℕ, suc, ◌+◌, ◌*◌, ◌/◌, ◌%◌, ◌<◌, ◌≤◌, ℤ, pos, negsuc, ◌*ℤ◌, neg_ℤ, mod-lt, mul-suc, arith}
 use native.Mathlib.Nat.{div-add-mod}
 use lib.IntN.{pos-*ℤ-negsuc}

@@ -1,4 +1,5 @@
 -- The meaning of tables at the knots keeps the law of interpolation. Assumes nothing.
+--   found          the value of a residual by the finder's two places
 --   interpolates   values that are the finder's keep the law
 --   by_knots       the meaning of the tables keeps it
 use Rattle.std.proofs.Common.{◌≡◌, ℕ, ◌+◌, ◌-◌, ◌<◌, ◌≤◌, true, cond, List, ℤ, pos, negsuc, ◌+ℤ◌, ◌-ℤ◌, ◌*ℤ◌, sym, refl, ap, ◌∙◌, subst, inl, inr, arith, lt-ltb, eq-eqb, ne_eqb}
@@ -20,7 +21,6 @@ toward_between low high (pos k) s e h = inl (omega (arith, ints), omega (arith, 
 toward_between low high (negsuc k) s e h = inr (omega (arith, ints), omega (arith, ints))
 
 module _ (given : ℕ → ℤ) where
-  -- the value of a residual by the finder's two places
   abbrev pub found : ℕ → ℤ
   found m = value_at (given (low_place m)) (given (high_place m)) m (low_place m) (high_place m)
 

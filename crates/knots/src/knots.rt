@@ -7,7 +7,7 @@ pub const KNOTS: [u32; 12] = [0, 1, 3, 6, 9, 12, 24, 36, 48, 60, 84, 120];
 // The place of the last knot that is not past a residual.
 fn last_knot(residual: u32) -> usize
     ensures value { result ≡ low_place residual }
-    ensures most { result ≤ 11 }
+    ensures bound { result ≤ 11 }
 {
     KNOTS.partition_point(|knot| *knot <= residual) - 1
 }

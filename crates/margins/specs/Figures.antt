@@ -1,7 +1,8 @@
 -- The figures of one account.
 -- gross_of: the sum of notionals. benchmark_of: what the trades of one benchmark come to. part_of: of an account's trades.
--- family_from, family_of: what a family comes to. figures_of: what the account comes to.
--- levels-row: the levels of a family that stand in a record. securities_of: what the lots of the 32 securities count for.
+-- both_initial: the initial margin of a family. family_at, family_from, family_of: what a family comes to at levels, as they settle, and of an account's trades.
+-- securities_of: what the lots of the 32 securities count for. figures_from, figures_of: what the account comes to.
+-- many: how many trades of a benchmark there are. Bounded: what trades of one benchmark come to at most.
 use Rattle.std.specs.Prelude.{ℕ, ◌+◌, ◌-◌, ◌*◌, ◌≤◌, List, length, sum_by, slice_index, slice_index_or}
 use Rattle.models.specs.Meaning.{Meaning}
 use Rattle.tables.specs.Codes.{benchmark_code, first_benchmark, second_benchmark}
@@ -68,7 +69,6 @@ family_from s l p q = family_at s (levels_of s.averages l (both_initial p q) (p.
 unfoldable pub family_of : Meaning → MarketState → Family → Levels → List TradeRow → FamilyFigures
 family_of m k f l ts = family_from (family_state k f) l (part_of m k (first_benchmark f) ts) (part_of m k (second_benchmark f) ts)
 
--- lots of the 32 securities
 unfoldable pub securities_of : List ℕ → List SecurityRow → ℕ
 securities_of ls ss = sum_below (λ i. lots_value (slice_index ls i) (slice_index_or ss i no_security)) 32
 
@@ -90,7 +90,6 @@ figures_of m k r ts =
     (family_of m k Overnight r.overnight ts)
     (family_of m k Forward r.forward ts)
 
--- how many trades of a benchmark there are
 abbrev pub many : MarketState → Benchmark → List TradeRow → ℕ
 many k b ts = length (group_trades ByBenchmark k.day (benchmark_code b) ts)
 

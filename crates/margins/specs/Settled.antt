@@ -1,5 +1,5 @@
 -- What is settled again at the same values stays.
--- LevelSettles, OwnSettles, SecondSettles: a level and the two flags. FiguresSettle: all figures of an account.
+-- LevelSettles, OwnSettles, SecondSettles: a level and the two flags. with_levels: a record with these levels. FiguresSettle: all figures of an account.
 use Rattle.std.specs.Prelude.{◌≡◌, ℕ, Bool, List}
 use Rattle.models.specs.Meaning.{Meaning}
 use Rattle.tables.specs.declared.row.AccountRow.{AccountRow}

@@ -1,6 +1,6 @@
 -- Worked figures, as one theorem on the rules.
 -- today: month 300, set 0. pay, receive: a trade in MIBOR of so many lakh with so many months left.
--- Still: a model whose changes are 0. Worked: the worked figures.
+-- Still: a model whose changes are 0. InitialIs: the initial margin of trades under every such model, with no step-up. Worked: the worked figures.
 use Rattle.std.specs.Prelude.{◌≡◌, ℕ, ◌+◌, true, List, [], ◌∷◌, pos}
 use Rattle.tail.specs.Tail.{Kth, reaches_loss}
 use Rattle.models.specs.Meaning.{Meaning}
@@ -24,7 +24,6 @@ receive lakh months fixed = record { number = 2; benchmark = 0; side = 1; maturi
 abbrev pub Still : Meaning → Type 0
 Still m = (s b r j : ℕ) → m.change s b r j ≡ pos 0
 
--- the initial margin of trades under every model whose changes are 0, with no step-up
 abbrev pub InitialIs : List TradeRow → ℕ → Type 0
 InitialIs ts n = (m : Meaning) → Still m → (risk_of m today 0 ts).initial ≡ n
 

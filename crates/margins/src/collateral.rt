@@ -16,7 +16,8 @@ fn row_value(lots: u32, row: SecurityRow) -> u64
     Security::from_row(row).map_or(0, |security| security.lots_value(lots))
 }
 
-// What the lots of the 32 securities count for.
+// What the lots of the 32 securities count for. A `for`: tried as one chain, whose sum wants that each pair keeps its limits and fits, its
+// value and its bound, and the check found none of these.
 #[tactic(auto, unfolding(tables::specs::Numbers::sum_below))]
 pub(crate) fn securities_value(lots: &[u32; 32], securities: &[SecurityRow; 32]) -> u64
     requires lots { All (λ n. n ≤ 1000000) lots.now }

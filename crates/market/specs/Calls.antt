@@ -1,8 +1,10 @@
 -- The calls of the market: what each asks, and what it changes in the market state.
--- with_day, with_percent, with_family, with_security: a market state with one part replaced.
--- quoted: the row that a quote gives. quote_fits, returns_fit, slot_fits, month_fits: the tests of the questions.
--- calm_returns: every return is below its calm mark. checked: a family after a volatility check. closed_family: a family after the day.
--- market_questions: the questions of a call in their order; `sets` is how many sets the call's model has.
+-- with_day, with_percent, with_family, with_security: a market state with its month and set, its step-up, a family or a security replaced.
+-- with_averages, with_thresholds: a family with other averages or thresholds.
+-- quoted: the row that a quote gives. quote_fits, return_fits, returns_fit, is_given, slot_fits, month_fits: the tests of the questions.
+-- set_questions and its like: the questions of each call after question 1, in their order. market_questions: of any; `sets` is how many sets the call's model has.
+-- calm_returns: every return is below its calm mark. checked_by, checked: a family after a volatility check.
+-- volatility_after_day, closed_family: the per cent of a family, and the family, after the day.
 -- market_changed: the market state after an accepted call. can_change: the change can be made as it stands.
 use Rattle.std.specs.Prelude.{ℕ, ◌+◌, min, max, Bool, true, false, if◌then◌else◌, ◌&&◌, List, [], ◌∷◌, Some, None, Option, ◌==◌, nat_le, nat_lt, slice_index, slice_set}
 use Rattle.refusals.specs.declared.refusal.Refusal.TheVariants.{NoSecurity, NoSet, WrongPrice, WrongStepUp, NoFamily, WrongAverages, WrongThresholds, WrongReturns, NoThresholds, WrongSlot, WrongMonth}

@@ -1,6 +1,7 @@
 -- The market state and its limits.
 -- family_state: the state of one of the two families.
--- averages_keep, thresholds_keep, family_keeps, market_keeps: every number is in range.
+-- average_keeps, averages_keep: an average, and both of a family, are in range. mark_keeps, marks_keep: a trigger and its calm mark are in range,
+-- and all five of a family. thresholds_keep, family_keeps, market_keeps: every number is in range; the step-up is the market's `percent`.
 use Rattle.std.specs.Prelude.{ℕ, Bool, true, ◌&&◌, List, Some, None, Option, nat_le, slice_index}
 use Rattle.tables.specs.declared.codes.Family.{Family}
 use Rattle.tables.specs.declared.codes.Family.TheVariants.{Overnight, Forward}
@@ -22,7 +23,6 @@ abbrev pub averages_keep : Option Averages → Bool
 averages_keep None = true
 averages_keep (Some a) = average_keeps a.initial && average_keeps a.gross
 
--- a trigger and its calm mark
 abbrev pub mark_keeps : ℕ → ℕ → Bool
 mark_keeps t c = nat_le 1 c && (nat_le c t && nat_le t 1000000)
 

@@ -1,7 +1,8 @@
 -- The volatility check of a family: five returns against five triggers, in millionths.
--- exceeding: how many returns exceed their triggers. ratio_at: the ratio of a return to its trigger.
--- highest: the highest of the five ratios, compared by cross multiplication.
--- tenths_of: the per cent that a ratio gives, in tenths. charged: the per cent that a check gives.
+-- exceeds, exceeding: 1 where a return exceeds its trigger, and how many do. ratio_at: the ratio of a return to its trigger.
+-- higher, highest_upto, highest: the higher of two ratios, compared by cross multiplication, and the highest of the five.
+-- rounded_to_five: a ratio in per cent, rounded up to a multiple of 5. tenths_of: the per cent that a ratio gives, in tenths.
+-- charged: the per cent that a check gives.
 -- Highest, RatioFound: what the check's optional ratio is.
 use Rattle.std.specs.Prelude.{◌≡◌, ℕ, zero, suc, ◌+◌, ◌-◌, ◌*◌, ◌<◌, ◌≤◌, min, max, if◌then◌else◌, List, Some, None, Option, nat_le, nat_lt, slice_index}
 use Rattle.tables.specs.Numbers.{rounded_up}
@@ -34,10 +35,10 @@ highest_upto r (suc n) = higher (highest_upto r n) (r (suc n))
 abbrev pub highest : List ℕ → List ℕ → ℕ × ℕ
 highest ts rs = highest_upto (ratio_at ts rs) 4
 
--- P is the ratio in per cent, rounded up to a multiple of 5; the per cent is half of P - 100, at most 100
 abbrev pub rounded_to_five : ℕ → ℕ → ℕ
 rounded_to_five n d = 5 * rounded_up (20 * n) d
 
+-- half of what the rounded ratio is above 100, at most 100 per cent
 abbrev pub tenths_of : ℕ → ℕ → ℕ
 tenths_of n d = min (5 * (rounded_to_five n d - 100)) 1000
 

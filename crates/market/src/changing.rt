@@ -21,7 +21,8 @@ fn stays_calm(calm: bool, marks: [u32; 5], returns: [u32; 5]) -> bool
         .all(|(value, mark)| value < mark)
 }
 
-// A row that takes over a security's price, haircut and listing.
+// A row that takes over a security's price, haircut and listing. A function for one assignment, since a rule of the project lends a
+// price call one element of the table.
 fn reprice(row: &mut SecurityRow, security: Security)
     ensures { row.new ≡ security.row }
 {

@@ -29,7 +29,7 @@ impl TryFrom<&[u8]> for Kind {
 // How many rates a set has.
 pub fn cells(kind: Kind) -> u32
     ensures value { result ≡ cells_of kind }
-    ensures most { result ≤ 484 }
+    ensures bound { result ≤ 484 }
 {
     match kind {
         Kind::Table => TableLayout::CELLS,

@@ -133,19 +133,16 @@ fn read_tables(heap: Global, scan: &mut Scan, head: Head) -> Result<NamedNumbers
     let numbers = next_tables(heap, scan, head)?;
     let mut ahead = *scan;
     let word = ahead.word();
-    match number(word) {
-        Some(_) => Err(LoadRefusal::Making(MakingRefusal::WrongLengths)),
-        None => {
-            if may_follow(word) {
-                Ok(NamedNumbers {
-                    kind: head.kind,
-                    numbers,
-                })
-            } else {
-                Err(LoadRefusal::Malformed)
-            }
-        }
+    if number(word).is_some() {
+        return Err(LoadRefusal::Making(MakingRefusal::WrongLengths));
     }
+    if !may_follow(word) {
+        return Err(LoadRefusal::Malformed);
+    }
+    Ok(NamedNumbers {
+        kind: head.kind,
+        numbers,
+    })
 }
 
 // The numbers of the model that stands first in a text, or why there are none.

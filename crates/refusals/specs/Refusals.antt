@@ -1,5 +1,6 @@
 -- Refusals.
--- number_of: the number of each. asked: one question. first_no: questions in their order, refused by the first no.
+-- number_of: the number of each. asked: what one question comes to. Question: a test and the refusal that a no gives.
+-- first_no: questions in their order, refused by the first no.
 -- decided: what a call does where every question is answered yes, and otherwise. result_number: 0, or the number of the first no.
 use Rattle.std.specs.Prelude.{ℕ, Bool, true, false, if◌then◌else◌, List, [], ◌∷◌, Ok, Err, Result}
 use Rattle.refusals.specs.declared.refusal.Refusal.{Refusal}
@@ -41,7 +42,6 @@ abbrev pub asked : Bool → Refusal → Result (Unit {0}) Refusal
 asked true r = Ok tt
 asked false r = Err r
 
--- a question is a test and the refusal that a no gives
 abbrev pub Question : Type 0
 Question = Bool × Refusal
 
@@ -53,7 +53,6 @@ abbrev pub decided : {X : Type 0} → Result (Unit {0}) Refusal → X → (Refus
 decided (Ok x) accepted refused = accepted
 decided (Err e) accepted refused = refused e
 
--- 0, or the number of the first no
 abbrev pub result_number : Result (Unit {0}) Refusal → ℕ
 result_number (Ok x) = 0
 result_number (Err e) = number_of e

@@ -1,5 +1,5 @@
 -- The groups of one grouping are apart, so that together they have no more trades than there are.
-use Rattle.std.proofs.Common.{◌≡◌, ℕ, zero, suc, ◌+◌, ◌*◌, ◌≤◌, true, List, [], ◌∷◌, length, pos, count_by, filter, sym, refl, ap, arith, rules}
+use Rattle.std.proofs.Common.{◌≡◌, ℕ, zero, suc, ◌+◌, ◌*◌, ◌≤◌, true, List, [], ◌∷◌, length, pos, count_by, filter, sym, refl, ap, ◌∙◌, arith, rules}
 use Rattle.std.specs.Prelude.{◌==◌, nat_lt, nat_le, if◌then◌else◌}
 use Rattle.std.proofs.lemmas.Bool.Decides.{nat_tests}
 use Rattle.std.proofs.lemmas.Bool.{le-ltb, le-leb, leb-true, and_parts, and_from}
@@ -13,12 +13,12 @@ use Rattle.models.specs.Meaning.{Meaning, Lawful}
 use Rattle.tables.specs.declared.row.TradeRow.{TradeRow}
 use Rattle.market.specs.declared.day.Day.{Day}
 use Rattle.risk.specs.declared.grouping.Grouping.{Grouping}
-use Rattle.risk.specs.declared.grouping.Grouping.TheVariants.{ByBenchmark}
+use Rattle.risk.specs.declared.grouping.Grouping.TheVariants.{ByResidual, ByHalfYear, ByBenchmark}
 use Rattle.risk.specs.Groups.{TradeFits, Standing, key_of, groups_of, in_group, group_trades}
-use Rattle.tables.specs.Numbers.{sum_below}
+use Rattle.tables.specs.Numbers.{sum_below, rounded_up}
 use Rattle.tables.proofs.Numbers.{sum_le, sum_nil}
 use Rattle.risk.specs.Losses.{var_of}
-use Rattle.risk.specs.Initial.{grouped_risk}
+use Rattle.risk.specs.Initial.{grouped_risk, stepped_up, minimum_of, risk_from, risk_of}
 use Rattle.risk.proofs.Risks.{var_most, var_none, var_still}
 
 one_more : (k n : ℕ) → (if nat_lt k (suc n) then 1 else 0) ≡ (if nat_lt k n then 1 else 0) + (if k == n then 1 else 0)
@@ -90,3 +90,21 @@ grouped_still m d g ts still = sum_nil (λ k. var_of m d (group_trades g d k ts)
 pub grouped_none : (m : Meaning) (d : Day) (g : Grouping) → grouped_risk m d g [] ≡ 0
 unfolding grouped_risk group_trades
 grouped_none m d g = sum_nil (λ k. var_of m d []) (groups_of g) (λ k. var_none m d)
+
+nought_stepped : (s : ℕ) → 0 ≡ stepped_up s 0
+nought_stepped s =
+    let none : 0 * s ≡ 0 = omega arith in
+    sym (ap (λ n. 0 + rounded_up n 100) none)
+
+pub risk_none : (m : Meaning) (d : Day) (s : ℕ) → risk_from s 0 0 0 0 ≡ risk_of m d s []
+unfolding risk_of minimum_of
+risk_none m d s =
+    ap (λ x. risk_from s x 0 0 0) (sym (grouped_none m d ByResidual))
+    ∙ ap (λ z. risk_from s (grouped_risk m d ByResidual []) z 0 0) (sym (grouped_none m d ByHalfYear))
+    ∙ ap (λ y. risk_from s (grouped_risk m d ByResidual []) (grouped_risk m d ByHalfYear []) y 0) (sym (var_none m d))
+
+pub risk_nought : (m : Meaning) (d : Day) (s : ℕ) (ts : List TradeRow) → ts ≡ [] → record { residuals = 0; halfyears = 0; whole = 0; spread = 0; minimum = 0; initial = 0 } ≡ risk_of m d s ts
+risk_nought m d s ts none =
+    ap (λ n. record { residuals = 0; halfyears = 0; whole = 0; spread = 0; minimum = 0; initial = n }) (nought_stepped s)
+    ∙ risk_none m d s
+    ∙ ap (risk_of m d s) (sym none)

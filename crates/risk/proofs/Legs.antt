@@ -21,7 +21,7 @@ negation_times zero z = zero-*ℤ z ∙ sym (ap neg_ℤ (zero-*ℤ z))
 negation_times (suc n) (pos k) = refl
 negation_times (suc n) (negsuc k) = sym (neg_ℤ-neg_ℤ (pos (suc n * suc k)))
 
-signed_times : (s : Side) (n : ℕ) (z : ℤ) → negated_for Pay s (pos n *ℤ pos 1) *ℤ z ≡ negated_for Pay s (pos n *ℤ z)
+pub signed_times : (s : Side) (n : ℕ) (z : ℤ) → negated_for Pay s (pos n *ℤ pos 1) *ℤ z ≡ negated_for Pay s (pos n *ℤ z)
 signed_times Pay n z = let one : n * 1 ≡ n = omega arith in ap (λ k. neg_ℤ (pos k) *ℤ z) one ∙ negation_times n z
 signed_times Receive n z = let one : n * 1 ≡ n = omega arith in ap (λ k. pos k *ℤ z) one
 

@@ -5,3 +5,5 @@ pub mod Apart
 pub mod Legs
 pub mod Adds
 pub mod Bands
+pub mod Nets
+pub mod Alones

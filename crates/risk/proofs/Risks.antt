@@ -88,12 +88,16 @@ var_most m d ts law fits =
     let size : nat_abs (tail_loss m d ts) ≤ 2000000000000 * length ts = tail_has m d ts (λ z. nat_abs z ≤ 2000000000000 * length ts) (omega arith) (each_loss m d ts (λ z. nat_abs z ≤ 2000000000000 * length ts) (λ j. loss_most m d j ts law fits)) in
     omega (arith, gain_le (tail_loss m d ts))
 
+-- losses of 0 put nothing at risk
+pub var_nought : (m : Meaning) (d : Day) (ts : List TradeRow) → ((j : ℕ) → nat_abs (loss_of m d j ts) ≤ 0) → var_of m d ts ≡ 0
+unfolding var_of
+var_nought m d ts nought =
+    let size : nat_abs (tail_loss m d ts) ≤ 0 = tail_has m d ts (λ z. nat_abs z ≤ 0) (omega arith) (each_loss m d ts (λ z. nat_abs z ≤ 0) nought) in
+    omega (arith, gain_le (tail_loss m d ts))
+
 -- no trades put nothing at risk
 pub var_none : (m : Meaning) (d : Day) → var_of m d [] ≡ 0
-unfolding var_of
-var_none m d =
-    let size : nat_abs (tail_loss m d []) ≤ 0 = tail_has m d [] (λ z. nat_abs z ≤ 0) (omega arith) (each_loss m d [] (λ z. nat_abs z ≤ 0) (λ j. omega arith)) in
-    omega (arith, gain_le (tail_loss m d []))
+var_none m d = var_nought m d [] (λ j. omega arith)
 
 -- y is the lowest of the tail as it was passed
 pub var_from : (m : Meaning) (d : Day) (ts : List TradeRow) (x y : ℤ) (r : ℕ) → y ≡ x → x ≡ tail_loss m d ts → r ≡ gain_of y → r ≡ var_of m d ts
@@ -120,8 +124,5 @@ leg_still m d j t still =
     omega (arith, e, size_times t.notional z)
 
 pub var_still : (m : Meaning) (d : Day) (ts : List TradeRow) → ((s b r i : ℕ) → m.change s b r i ≡ pos 0) → var_of m d ts ≡ 0
-unfolding var_of
 var_still m d ts still =
-    let loss-nil : (j : ℕ) → nat_abs (loss_of m d j ts) ≤ 0 = λ j. omega (arith, sum_most (leg_of m d j) 0 ts (All-from_get_or (λ t. nat_abs (leg_of m d j t) ≤ 0) ts no_trade (λ i lt. leg_still m d j (get_or ts i no_trade) still))) in
-    let size : nat_abs (tail_loss m d ts) ≤ 0 = tail_has m d ts (λ z. nat_abs z ≤ 0) (omega arith) (each_loss m d ts (λ z. nat_abs z ≤ 0) loss-nil) in
-    omega (arith, gain_le (tail_loss m d ts))
+    var_nought m d ts (λ j. omega (arith, sum_most (leg_of m d j) 0 ts (All-from_get_or (λ t. nat_abs (leg_of m d j t) ≤ 0) ts no_trade (λ i lt. leg_still m d j (get_or ts i no_trade) still))))

@@ -1,5 +1,5 @@
 -- How far from 0 a product and a negation are.
-use Rattle.std.proofs.Common.{◌≡◌, ℕ, zero, suc, ◌*◌, ◌≤◌, ℤ, pos, negsuc, ◌*ℤ◌, neg_ℤ, nat_abs, refl, mul-le-mul, arith, w32, w64, SFits, to_z, of_z}
+use Rattle.std.proofs.Common.{◌≡◌, ℕ, zero, suc, ◌*◌, ◌≤◌, ℤ, pos, negsuc, ◌*ℤ◌, neg_ℤ, nat_abs, refl, ap, ◌∙◌, mul-le-mul, arith, w32, w64, SFits, to_z, of_z}
 use lib.IntN.{pos-*ℤ-negsuc}
 use Rattle.std.proofs.lemmas.Int.{to_z-of_z, to_z_pos}
 use Rattle.risk.proofs.Signs.{fits_money}
@@ -38,3 +38,7 @@ cast_times n z h k =
     let b = to_z-of_z w32 z k in
     let d = to_z-of_z w64 z (fits_money z (omega (arith, size_32 z k))) in
     simp (a, b, d)
+
+-- a number of 32 bits, cast to 64
+pub cast_wide : (z : ℤ) → SFits w32 z → to_z w64 (of_z w64 (to_z w32 (of_z w32 z))) ≡ z
+cast_wide z k = ap (λ u. to_z w64 (of_z w64 u)) (to_z-of_z w32 z k) ∙ to_z-of_z w64 z (fits_money z (omega (arith, size_32 z k)))

@@ -1,8 +1,10 @@
 -- Standing trades, and how they are put into groups.
 -- TradeFits, Standing: trades within their limits, at most 64.
 -- key_of: the group of a trade, by residual, by half-year bucket or by benchmark. groups_of: how many groups there are.
--- group_trades: the trades of one group, in their order.
-use Rattle.std.specs.Prelude.{ℕ, ◌/◌, ◌≤◌, min, Bool, List, All, length, filter, ◌==◌}
+-- in_group, group_trades: the trades of one group, in their order.
+-- alike, all_alike: trades of one benchmark and residual, which the code nets; no rule goes by them.
+use Rattle.std.specs.Prelude.{ℕ, ◌/◌, ◌≤◌, min, Bool, List, All, length, filter, ◌==◌, ◌&&◌}
+use Rattle.std.specs.List.{list_all}
 use Rattle.tables.specs.declared.row.TradeRow.{TradeRow}
 use Rattle.market.specs.declared.day.Day.{Day}
 use Rattle.market.specs.Days.{residual_of}
@@ -32,3 +34,9 @@ in_group g d k t = key_of g d t == k
 
 unfoldable pub group_trades : Grouping → Day → ℕ → List TradeRow → List TradeRow
 group_trades g d k ts = filter (in_group g d k) ts
+
+abbrev pub alike : Day → TradeRow → TradeRow → Bool
+alike d f t = (t.benchmark == f.benchmark) && (residual_of d t == residual_of d f)
+
+abbrev pub all_alike : Day → TradeRow → List TradeRow → Bool
+all_alike d f ts = list_all (alike d f) ts

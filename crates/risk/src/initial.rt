@@ -1,53 +1,16 @@
 // The initial margin of the trades of one benchmark, step by step.
 ghost use Rattle.std.specs.Prelude.{◌≡◌, ◌*◌, ◌≤◌, length, pos, unsigned_abs};
-ghost use Rattle.risk.specs.Groups.{group_trades};
-ghost use Rattle.risk.specs.Losses.{var_of};
-ghost use Rattle.risk.specs.Initial.{grouped_risk, spread_of, band_rate, weight_of, minimum_of, stepped_up};
+ghost use Rattle.risk.specs.Initial.{spread_of, band_rate, weight_of, minimum_of, stepped_up};
 
-use super::gather::gather;
-use super::grouping::Grouping;
-use super::quotes::Quotes;
 use super::trade::Trade;
 use market::day::Day;
-use models::model::MarginModel;
 use tables::codes::Side;
-use tables::row::{NO_TRADE, TradeRow};
 use tables::standing::StandingTrades;
 
 // The residuals at which the first two bands end, and what each band's lakh counts, in paise.
 const BAND_ENDS: [u32; 2] = [36, 60];
 
 const BAND_RATES: [i32; 3] = [50_000, 100_000, 175_000];
-
-impl<'a, M: MarginModel> Quotes<'a, M> {
-    // The value at risk of the trades of a group, which are gathered in `room`.
-    fn group_risk(
-        &self,
-        grouping: Grouping,
-        key: u32,
-        trades: StandingTrades,
-        room: &mut [TradeRow; 64],
-    ) -> u64
-        ensures { result ≡ var_of (M.meaning self.now.model.now) self.now.day (group_trades grouping self.now.day key trades.entry.trades.now) }
-    {
-        let group = gather(grouping, self.day, key, trades, room);
-        self.value_at_risk(group)
-    }
-
-    // The values at risk of the groups, added up. They share a room, which is made once.
-    #[tactic(auto, unfolding(crate::specs::Initial::grouped_risk, tables::specs::Numbers::sum_below))]
-    pub(crate) fn sum_group_risks(&self, grouping: Grouping, trades: StandingTrades) -> u64
-        ensures value { result ≡ grouped_risk (M.meaning self.now.model.now) self.now.day grouping trades.entry.trades.now }
-        ensures bound { result ≤ 2000000000000 * length trades.entry.trades.now }
-    {
-        let mut room = [NO_TRADE; 64];
-        let mut sum = 0;
-        for key in 0..grouping.groups() {
-            sum += self.group_risk(grouping, key, trades, &mut room);
-        }
-        sum
-    }
-}
 
 // The spread charge: x by residual, z by half-year bucket, y as a whole.
 pub(crate) fn spread_charge(x: u64, z: u64, y: u64) -> u64

@@ -8,4 +8,5 @@ mod initial;
 mod losses;
 pub mod money;
 pub mod quotes;
+mod sums;
 pub mod trade;

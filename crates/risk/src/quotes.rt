@@ -6,7 +6,8 @@ use market::day::Day;
 use models::model::MarginModel;
 use tables::row::TradeRow;
 
-// What a model says of trades on a day.
+// What a model says of trades on a day. Each question works the residual out, as the model's own questions want set, benchmark and
+// residual.
 #[derive(Drop)]
 pub struct Quotes<'a, M> {
     pub model: &'a M,
@@ -32,16 +33,7 @@ impl<'a, M: MarginModel> Quotes<'a, M> {
             .tick(self.day.set, trade.benchmark as u32, residual)
     }
 
-    // What a lakh of a pay-fixed trade gains in a scenario, in paise.
-    pub fn change(&self, trade: &TradeRow, scenario: u32) -> i32
-        ensures { result ≡ (M.meaning self.now.model.now).change self.now.day.set trade.now.benchmark (residual_of self.now.day trade.now) scenario }
-    {
-        let residual = self.day.residual(trade);
-        self.model
-            .change(self.day.set, trade.benchmark as u32, residual, scenario)
-    }
-
-    // The same in the scenarios from the first on, as many as there is room for.
+    // What a lakh of a pay-fixed trade gains in the scenarios, in paise: from the first on, as many as there is room for.
     pub fn changes(&self, trade: &TradeRow, room: &mut [i32])
         ensures { (j : ℕ) → j < length room.old → slice_index_or room.new j (pos 0) ≡ (M.meaning self.now.model.now).change self.now.day.set trade.now.benchmark (residual_of self.now.day trade.now) j }
     {

@@ -1,5 +1,5 @@
 -- What an accepted account call changes in the named account's book, before it settles.
--- place_of: where the first trade of a number stands, past the trades where there is none. holds: whether there is one.
+-- is_other: a trade has another number. place_of: where the first trade of a number stands, past the trades where there is none. holds: whether there is one.
 -- closed: the trades without the one at a place, closed up. changed: the change of each call.
 use Rattle.std.specs.Prelude.{ℕ, ◌+◌, ◌-◌, Bool, not, List, [], ◌∷◌, ◌++◌, length, ◌==◌, nat_lt, slice_index, slice_set}
 use Rattle.std.specs.List.{prefix_len, remove}

@@ -1,6 +1,9 @@
 -- What a market call makes of the house and its accounts.
--- running: a trade that does not mature before a month. matured_out: a book without its trades of an earlier maturity, closed up in order.
--- new_month: the month that a call begins, if it begins one. aged: what a market call changes in a book before it settles. after_market: the stand after a market call.
+-- running: a trade that does not mature before a month. closed_up: trades, and empty places after them up to 64.
+-- matured_out: a book without its trades of an earlier maturity, closed up in order.
+-- new_month: the month that a call begins, if it begins one. aged_by, aged: what a market call changes in a book before it settles.
+-- all_settled, after_market: the stand after an accepted market call, and after any.
+-- market_answer, market_reply: an answer with the numbers of a market state, and the answer to a call on tables that keep their limits.
 -- MarketOutcome, market_outcome: the answer, the market state and both tables after a market call, whatever tables it brings.
 -- MarketAnswered: all that a public market call promises.
 use Rattle.std.specs.Prelude.{◌≡◌, ℕ, ◌-◌, Bool, true, if◌then◌else◌, List, ◌++◌, map, length, replicate, Some, None, filter, Option, nat_le}
@@ -30,7 +33,6 @@ unfoldable pub matured_out : ℕ → Book → Book
 matured_out month b =
     book (with_trades b.row (length (filter (running month) (standing_of b)))) (closed_up (filter (running month) (standing_of b)))
 
--- the month that a call begins, if it begins one
 abbrev pub new_month : MarketCall → Option ℕ
 new_month (Set s) = None
 new_month (Price q) = None
@@ -57,7 +59,6 @@ abbrev pub after_market : Meaning → Stand → MarketCall → Stand
 after_market m s c =
     decided (first_no (market_questions m.sets s.market c)) (all_settled m (market_changed c s.market) c s) (λ e. s)
 
--- set, month and both volatility per cents as they stand
 abbrev pub market_answer : ℕ → MarketState → MarketAnswer
 market_answer n k = record { number = n; set = k.day.set; month = k.day.month; overnight = k.overnight.volatility; forward = k.forward.volatility }
 

@@ -1,5 +1,5 @@
 -- The opening of a house.
--- opened_market: a market as an opening leaves it. empty_row: a record with nothing in it.
+-- quiet_family, opened_market: a family and a market as an opening leaves them. empty_row: a record with nothing in it.
 -- opening_questions: its questions in their order. opened_rows, opened_trades: the tables that it leaves.
 use Rattle.std.specs.Prelude.{ℕ, ◌*◌, true, false, ◌&&◌, List, [], ◌∷◌, length, replicate, None, ◌==◌, nat_le}
 use Rattle.tables.specs.declared.row.AccountRow.{AccountRow}

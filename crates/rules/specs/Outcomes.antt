@@ -1,8 +1,9 @@
 -- What an account call answers, and what any account call makes of any tables.
 -- restriction_of: 0 none, 1 own, 2 second, 3 both. answer_of: an answer with the figures of a record.
--- blank_answer: an answer without figures, after refusals 1 and 2.
--- OthersLeft: what a call leaves of the accounts that it does not name. Answered: all that a public account call promises.
--- Outcome, account_outcome: the answer and both tables after a call, whatever tables it brings.
+-- blank_answer: an answer without figures, after refusals 1 and 2. verdict_number: 0, or the number of the refusal.
+-- account_reply: the answer to a call on tables that keep their limits. Outcome, account_outcome: the answer and both tables after a call, whatever tables it brings.
+-- left_alone, house_left, OthersLeft: what a call leaves of a constituent, of the house, and of all the accounts that it does not name.
+-- Answered: all that a public account call promises.
 use Rattle.std.specs.Prelude.{◌≡◌, ℕ, suc, ◌+◌, ◌<◌, Bool, true, if◌then◌else◌, List, length, ◌==◌, ◌≢◌, nat_lt, slice_index_or}
 use Rattle.models.specs.Meaning.{Meaning}
 use Rattle.tables.specs.declared.row.AccountRow.{AccountRow}
@@ -30,7 +31,7 @@ abbrev pub verdict_number : Verdict Book → ℕ
 verdict_number (refused e) = number_of e
 verdict_number (granted b) = 0
 
--- the answer to a call on tables that keep their limits: the figures are those of the record after the call
+-- the figures are those of the record after the call
 abbrev pub account_reply : Meaning → Stand → ℕ → AccountCall → Answer
 account_reply m s i c =
     if nat_lt i (length (books_in s))

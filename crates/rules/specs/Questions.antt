@@ -1,7 +1,8 @@
 -- What an account call asks of the named account, in order.
+-- amount_fits, lots_fit, in_term: the tests of an amount, of lots and of a maturity.
 -- trade_questions and its like: the questions on each call's numbers and the book as it stands; asked_before: of any call.
 -- traded_questions, drawn_questions, asked_after: the questions on the figures with the change, r being the record as it stands and q as it would settle.
--- restricted_by: whether a record is restricted; the house by its own flag alone.
+-- restricted_by: whether a record is restricted; the house by its own flag alone. covered: available reaches the obligation.
 use Rattle.std.specs.Prelude.{ℕ, ◌+◌, Bool, if◌then◌else◌, not, ◌&&◌, ◌||◌, List, [], ◌∷◌, nat_le, nat_lt, slice_index}
 use Rattle.tables.specs.declared.row.AccountRow.{AccountRow}
 use Rattle.tables.specs.declared.row.TradeRow.{TradeRow}
@@ -62,7 +63,6 @@ asked_before k b Show = []
 abbrev pub restricted_by : Bool → AccountRow → Bool
 restricted_by house r = if house then r.own else (r.own || r.second)
 
--- does available reach the obligation?
 abbrev pub covered : AccountRow → Bool
 covered q = nat_le q.obligation q.available
 

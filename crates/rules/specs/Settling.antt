@@ -1,6 +1,7 @@
 -- How one account settles.
--- settled_row: figures, levels and own flag of a record anew, at a cover (0 for a constituent). settled: of a book.
--- house_settled: of the house, whose second flag is cleared. reflagged: a constituent's second flag anew.
+-- figured_row: a record with given figures, the obligation carrying the cover. settled_row: figures, levels and own flag of a record anew,
+-- at a cover (0 for a constituent). settled: of a book. house_settled: of the house, whose second flag is cleared.
+-- row_reflagged, reflagged: a constituent's second flag anew, in its record and in its book.
 use Rattle.std.specs.Prelude.{ℕ, ◌+◌, ◌-◌, Bool, false, List}
 use Rattle.models.specs.Meaning.{Meaning}
 use Rattle.tables.specs.declared.row.AccountRow.{AccountRow}
@@ -12,7 +13,6 @@ use Rattle.margins.specs.Figures.{figures_of}
 use Rattle.margins.specs.Flags.{own_after, second_after}
 use Rattle.rules.specs.Rows.{with_second}
 
--- a record with figures f, the obligation carrying the cover
 abbrev pub figured_row : ℕ → AccountRow → Figures → AccountRow
 figured_row cover r f = record r {
   obligation = f.obligation + cover;

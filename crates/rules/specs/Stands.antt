@@ -1,7 +1,10 @@
 -- The house with its accounts, and what an account call makes of it.
--- Stand: the market, the house's book and the constituents' books. books_in: all books, the house's first.
--- cover_of: the sum of the constituents' shortfalls. ordered: what a call on one account comes to, from that account's book alone
--- (with the cover, for the house). finish: cover and house settled, then all second flags. after_account: the stand after an account call.
+-- Stand: the market, the house's book and the constituents' books. stand_of, standing: the stand that books, and two tables, hold.
+-- books_in: all books, the house's first. rows_of, trades_of: the tables that hold a stand.
+-- shortfalls, cover_of: the sum of the shortfalls of books, and of the constituents. cover_for: the cover for one account: the house alone has one.
+-- Verdict: a call is refused, or granted with the book that it leaves. tried: the book as it would settle with the change.
+-- ordered: what a call on one account comes to, from that account's book alone (with the cover, for the house). verdict: of an account in a stand.
+-- flagged_by, finish: cover and house settled, then all second flags. concluded: the stand after a verdict. after_account: after an account call.
 -- AtRest: tables that are settled.
 use Rattle.std.specs.Prelude.{◌≡◌, ℕ, Bool, if◌then◌else◌, List, ◌∷◌, map, length, drop, sum_by, ◌==◌, nat_lt, slice_index_or, slice_set}
 use Rattle.models.specs.Meaning.{Meaning}
@@ -24,14 +27,12 @@ pub record Stand : Type 0 where
 abbrev pub stand_of : MarketState → List Book → Stand
 stand_of k bs = record { market = k; house = slice_index_or bs 0 no_book; constituents = drop 1 bs }
 
--- the stand that two tables hold
 abbrev pub standing : MarketState → List AccountRow → List TradeRow → Stand
 standing k rs ts = stand_of k (books_of rs ts)
 
 abbrev pub books_in : Stand → List Book
 books_in s = s.house ∷ s.constituents
 
--- the tables that hold a stand
 abbrev pub rows_of : Stand → List AccountRow
 rows_of s = rows_in (books_in s)
 
@@ -48,7 +49,6 @@ pub data Verdict (X : Type 0) : Type 0 where
   refused : Refusal → Verdict X
   granted : X → Verdict X
 
--- the book as it would settle with the change
 abbrev pub tried : Meaning → MarketState → ℕ → Book → AccountCall → Book
 tried m k cover b c = settled m k cover (changed c b)
 
@@ -65,7 +65,6 @@ flagged_by k h cs = record { market = k; house = h; constituents = map (reflagge
 abbrev pub finish : Meaning → Stand → Stand
 finish m s = flagged_by s.market (house_settled m s.market (cover_of s) s.house) s.constituents
 
--- the cover counts for the house alone
 abbrev pub cover_for : Stand → ℕ → ℕ
 cover_for s i = if i == 0 then cover_of s else 0
 

@@ -26,7 +26,7 @@ fn all_digits(word: &[u8]) -> bool
 // The number that one or more digits write.
 fn magnitude(word: &[u8]) -> Option<u128>
     ensures value { result ≡ magnitude_of word.now }
-    ensures most { IfSome result (λ n. n ≤ 18446744073709551616) }
+    ensures bound { IfSome result (λ n. n ≤ 18446744073709551616) }
 {
     if word.is_empty() || !all_digits(word) {
         return None;
@@ -37,7 +37,7 @@ fn magnitude(word: &[u8]) -> Option<u128>
 // The number that a word writes: digits, with a minus before them or not.
 pub fn number(word: &[u8]) -> Option<i128>
     ensures value { result ≡ number_of word.now }
-    ensures most { IfSome result (λ z. unsigned_abs z ≤ 18446744073709551616) }
+    ensures bound { IfSome result (λ z. unsigned_abs z ≤ 18446744073709551616) }
 {
     match word {
         [b'-', digits @ ..] => magnitude(digits).map(|n| -(n as i128)),
@@ -48,7 +48,7 @@ pub fn number(word: &[u8]) -> Option<i128>
 // The next word, if it is a number. A word that is none is not passed over.
 pub fn next_number(scan: &mut Scan) -> Option<i128>
     ensures value { result ≡ number_of (word_of scan.old.rest.now) }
-    ensures most { IfSome result (λ z. unsigned_abs z ≤ 18446744073709551616) }
+    ensures bound { IfSome result (λ z. unsigned_abs z ≤ 18446744073709551616) }
     ensures after { scan.new.rest.now ≡ after_number scan.old.rest.now }
 {
     let mut ahead = *scan;

@@ -36,7 +36,7 @@ impl<'a> Lines<'a> {
         Lines { rest: text }
     }
 
-    // The next line, without its line feed; nothing at the end.
+    // The next line, without its line feed; nothing at the end. It stands beside `next`, whose trait says less of what is left.
     pub fn next_line(&mut self) -> Option<&'a [u8]>
         ensures line { MatchOption result (length self.old.rest.now ≡ 0) (λ line. (line.now ≡ line_of self.old.rest.now) × ((self.new.rest.now ≡ lines_after self.old.rest.now) × (length self.new.rest.now < length self.old.rest.now))) }
         ensures end { length self.old.rest.now ≡ 0 → self.new.rest.now ≡ self.old.rest.now }

@@ -3,7 +3,17 @@
 #![tactic(auto)]
 
 use scriptrun::run::transcript;
+use std::env;
+use std::io::Write;
 
 fn main(rt: HostRuntime) -> anyhow::Result<()> {
-    samples::run(&rt, "script", |rt, bytes| transcript(rt, bytes))
+    let names: Vec<String> = env::args(&rt)?.skip(1).collect(rt.alloc())?;
+    let text = samples::run(
+        &rt,
+        names.as_slice(),
+        "script",
+        |rt, bytes| transcript(rt, bytes),
+    )?;
+    rt.stdout().write_all(text.as_bytes())?;
+    Ok(())
 }

@@ -1,4 +1,9 @@
 // A script played from its first line to its last.
+ghost use Rattle.std.specs.Prelude.{◌≡◌, ◌++◌, string_bytes, OnOk, IfOk};
+ghost use Rattle.session.specs.Held.{held};
+ghost use Rattle.scriptrun.specs.Lines.{said_text};
+ghost use Rattle.scriptrun.specs.Runs.{IsTranscript};
+
 use super::lines::{write_refused, write_reply, write_report};
 use script::lines::Lines;
 use script::reason::Reason;
@@ -12,7 +17,9 @@ fn write_said(
     line: usize,
     session: &Session,
     said: Result<Said, Reason>,
-) -> anyhow::Result<()> {
+) -> anyhow::Result<()>
+    ensures { OnOk result (string_bytes text.new ≡ string_bytes text.old ++ said_text line (held session.now) said) }
+{
     match said {
         Ok(Said::Nothing) => {}
         Ok(Said::Opened(number)) => writeln!(text, "{line} open {number}")?,
@@ -26,13 +33,15 @@ fn write_said(
 }
 
 // What a run of a script prints.
-pub fn transcript(rt: &HostRuntime, bytes: &[u8]) -> anyhow::Result<String> {
+pub fn transcript(rt: &HostRuntime, bytes: &[u8]) -> anyhow::Result<String>
+    ensures { IfOk result (λ text. IsTranscript bytes.now (string_bytes text)) }
+{
     let heap = rt.alloc();
     let mut session = Session::new(heap)?;
     let mut text = String::new(heap);
-    for (number, line) in (1usize..).zip(Lines::new(bytes)) {
+    for (place, line) in Lines::new(bytes).enumerate() {
         let said = play(&mut session, rt, line);
-        write_said(&mut text, number, &session, said)?;
+        write_said(&mut text, place + 1, &session, said)?;
     }
     Ok(text)
 }

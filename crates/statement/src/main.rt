@@ -20,7 +20,7 @@ use models::refusal::MakingRefusal;
 use models::table::TableLayout;
 use owned::making::make;
 use owned::owned_model::{OwnedKnots, OwnedNumbers, OwnedTable};
-use report::print_statement;
+use report::statement_of;
 use std::{env, fs, io};
 use worked::print_worked;
 
@@ -38,6 +38,16 @@ fn print_refusal(rt: &HostRuntime, name: &str, refusal: MakingRefusal) -> io::Re
         Some(place) => println!(rt; "model {name} refused {number} place {place}\n"),
         None => println!(rt; "model {name} refused {number}\n"),
     }
+}
+
+fn print_statement<M: MarginModel>(
+    rt: &HostRuntime,
+    input: &Input,
+    name: &str,
+    model: &M,
+) -> anyhow::Result<()> {
+    print!(rt; "{}", statement_of(rt.alloc(), input, name, model)?)?;
+    Ok(())
 }
 
 // The statements on both models and on their join.

@@ -1,6 +1,8 @@
 // The statement of one account on one model.
-ghost use Rattle.std.specs.Prelude.{◌≡◌, IfOk};
+ghost use Rattle.std.specs.Prelude.{◌≡◌, [], ◌++◌, string_bytes, OnOk, IfOk};
 ghost use Rattle.margins.specs.Figures.{figures_of};
+ghost use Rattle.margins.specs.Flags.{own_after, second_after};
+ghost use Rattle.statement.specs.Printing.{model_line, benchmark_lines, family_lines, collateral_line, owed_words, flags_line, account_line, line, figures_text, statement_text};
 
 use super::account_file::Input;
 use anyhow::Context;
@@ -9,32 +11,58 @@ use margins::figures::work::figures;
 use margins::flags::{own_flag, second_flag};
 use market::market::Market;
 use models::model::MarginModel;
-use std::io;
+use std::alloc::Global;
+use std::fmt::Write;
 use tables::account::Account;
 use tables::row::TradeRow;
 use tables::standing::StandingTrades;
 
 // The lines below have words between their numbers that no other program prints: functions, and no `Display`.
-fn print_collateral(rt: &HostRuntime, cash: u64, f: &Figures) -> io::Result<()> {
-    println!(rt;
-        "collateral cash {cash} securities {} total {}",
-        f.securities, f.collateral
-    )
+fn write_collateral(text: &mut String, cash: u64, f: &Figures) -> anyhow::Result<()>
+    ensures { OnOk result (string_bytes text.new ≡ string_bytes text.old ++ collateral_line cash f.now) }
+{
+    let securities = f.securities;
+    let total = f.collateral;
+    writeln!(
+        text,
+        "collateral cash {cash} securities {securities} total {total}"
+    )?;
+    Ok(())
 }
 
-// The last line, and an empty one.
-fn print_flags(rt: &HostRuntime, own: bool, second: bool) -> io::Result<()> {
+// The first words of the line of an account.
+fn write_owed(text: &mut String, f: &Figures) -> anyhow::Result<()>
+    ensures { OnOk result (string_bytes text.new ≡ string_bytes text.old ++ owed_words f.now) }
+{
+    let obligation = f.obligation;
+    let available = f.available;
+    let shortfall = f.shortfall;
+    write!(
+        text,
+        "account obligation {obligation} available {available} shortfall {shortfall} "
+    )?;
+    Ok(())
+}
+
+// The last line, and an empty one. Its number of a restriction is that of an answer, made in `house`, on which this program does not
+// stand; a script says it in a word.
+fn write_flags(text: &mut String, own: bool, second: bool) -> anyhow::Result<()>
+    ensures { OnOk result (string_bytes text.new ≡ string_bytes text.old ++ flags_line own second) }
+{
     let first = u8::from(own);
     let other = u8::from(second);
     let both = u16::from(first) + 2 * u16::from(other);
-    println!(rt; "own-flag {first} second-flag {other} restriction {both}\n")
+    writeln!(
+        text,
+        "own-flag {first} second-flag {other} restriction {both}"
+    )?;
+    Ok(())
 }
 
-fn print_account(rt: &HostRuntime, input: &Input, f: &Figures) -> io::Result<()> {
-    print!(rt;
-        "account obligation {} available {} shortfall {} ",
-        f.obligation, f.available, f.shortfall
-    )?;
+// The flags as they are after settling.
+fn write_settled(text: &mut String, input: &Input, f: &Figures) -> anyhow::Result<()>
+    ensures { OnOk result (string_bytes text.new ≡ string_bytes text.old ++ flags_line (own_after input.now.row.own f.now.obligation f.now.available) (second_after input.now.restricted input.now.row.second f.now.obligation f.now.available)) }
+{
     let own = own_flag(input.row.own, f.obligation, f.available);
     let second = second_flag(
         input.restricted,
@@ -42,7 +70,14 @@ fn print_account(rt: &HostRuntime, input: &Input, f: &Figures) -> io::Result<()>
         f.obligation,
         f.available,
     );
-    print_flags(rt, own, second)
+    write_flags(text, own, second)
+}
+
+fn write_account(text: &mut String, input: &Input, f: &Figures) -> anyhow::Result<()>
+    ensures { OnOk result (string_bytes text.new ≡ string_bytes text.old ++ account_line input.now.row input.now.restricted f.now) }
+{
+    write_owed(text, f)?;
+    write_settled(text, input, f)
 }
 
 // The figures of an account, or what is wrong with the input.
@@ -61,44 +96,77 @@ pub fn figures_of<'a, M: MarginModel>(
     Ok(figures(model, &market, &account, standing))
 }
 
-fn print_benchmarks(rt: &HostRuntime, f: &Figures) -> io::Result<()> {
-    println!(rt;
+fn write_benchmarks(text: &mut String, f: &Figures) -> anyhow::Result<()>
+    ensures { OnOk result (string_bytes text.new ≡ string_bytes text.old ++ benchmark_lines f.now) }
+{
+    writeln!(
+        text,
         "benchmark trades gross residuals half-years whole spread minimum initial mark loss credit"
     )?;
-    println!(rt; "0 {}", f.overnight.first)?;
-    println!(rt; "1 {}", f.overnight.second)?;
-    println!(rt; "2 {}", f.forward.first)?;
-    println!(rt; "3 {}", f.forward.second)
+    writeln!(text, "0 {}", f.overnight.first)?;
+    writeln!(text, "1 {}", f.overnight.second)?;
+    writeln!(text, "2 {}", f.forward.first)?;
+    writeln!(text, "3 {}", f.forward.second)?;
+    Ok(())
 }
 
-fn print_families(rt: &HostRuntime, f: &Figures) -> io::Result<()> {
-    println!(rt;
+fn write_families(text: &mut String, f: &Figures) -> anyhow::Result<()>
+    ensures { OnOk result (string_bytes text.new ≡ string_bytes text.old ++ family_lines f.now) }
+{
+    writeln!(
+        text,
         "family initial gross initial-level gross-level volatility concentration obligation credit"
     )?;
-    println!(rt; "0 {}", f.overnight)?;
-    println!(rt; "1 {}", f.forward)
+    writeln!(text, "0 {}", f.overnight)?;
+    writeln!(text, "1 {}", f.forward)?;
+    Ok(())
 }
 
-fn print_figures(rt: &HostRuntime, input: &Input, f: &Figures) -> io::Result<()> {
-    print_benchmarks(rt, f)?;
-    print_families(rt, f)?;
-    print_collateral(rt, input.row.cash, f)?;
-    print_account(rt, input, f)
+fn write_figures(text: &mut String, input: &Input, f: &Figures) -> anyhow::Result<()>
+    ensures { OnOk result (string_bytes text.new ≡ string_bytes text.old ++ figures_text input.now.row input.now.restricted f.now) }
+{
+    write_benchmarks(text, f)?;
+    write_families(text, f)?;
+    write_collateral(text, input.row.cash, f)?;
+    write_account(text, input, f)
 }
 
-// A statement, and an empty line after it.
-pub fn print_statement<M: MarginModel>(
-    rt: &HostRuntime,
+fn write_model<M: MarginModel>(text: &mut String, name: &str, model: &M) -> anyhow::Result<()>
+    ensures { OnOk result (string_bytes text.new ≡ string_bytes text.old ++ model_line name.now (M.meaning model.now)) }
+{
+    let sets = model.sets();
+    let scenarios = model.scenarios();
+    writeln!(text, "model {name} sets {sets} scenarios {scenarios}")?;
+    Ok(())
+}
+
+// The lines of a statement, and an empty line after it.
+fn write_statement<M: MarginModel>(
+    text: &mut String,
     input: &Input,
     name: &str,
     model: &M,
-) -> anyhow::Result<()> {
-    let f = figures_of(model, input, input.trades.as_slice())?;
-    println!(rt;
-        "model {name} sets {} scenarios {}",
-        model.sets(),
-        model.scenarios()
-    )?;
-    print_figures(rt, input, &f)?;
+    f: &Figures,
+) -> anyhow::Result<()>
+    ensures { OnOk result (string_bytes text.new ≡ string_bytes text.old ++ (model_line name.now (M.meaning model.now) ++ figures_text input.now.row input.now.restricted f.now ++ line [])) }
+{
+    write_model(text, name, model)?;
+    write_figures(text, input, f)?;
+    writeln!(text, "")?;
     Ok(())
+}
+
+// The text of a statement.
+pub fn statement_of<M: MarginModel>(
+    heap: Global,
+    input: &Input,
+    name: &str,
+    model: &M,
+) -> anyhow::Result<String>
+    ensures { IfOk result (λ text. string_bytes text ≡ statement_text name.now (M.meaning model.now) input.now.state input.now.row input.now.restricted input.now.trades.items) }
+{
+    let f = figures_of(model, input, input.trades.as_slice())?;
+    let mut text = String::new(heap);
+    write_statement(&mut text, input, name, model, &f)?;
+    Ok(text)
 }

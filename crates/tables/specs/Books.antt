@@ -1,7 +1,8 @@
 -- Accounts as the two tables hold them.
 -- Book: the record of an account and its 64 trade places. books_of: every account's book, read out of the tables.
 -- places_at: the places of one account. standing_of: the trades that stand in a book.
--- rows_in, places_in: the tables that hold some books. put_places: the places of one account written. no_row, no_book: what `slice_index_or` gives past the end.
+-- rows_in, places_in: the tables that hold some books. put_places: the places of one account written.
+-- no_row, no_levels, no_book: what `slice_index_or` gives past the end.
 use Rattle.std.specs.Prelude.{ℕ, ◌+◌, ◌*◌, false, List, [], ◌∷◌, ◌++◌, map, take, drop}
 use Rattle.tables.specs.declared.row.AccountRow.{AccountRow}
 use Rattle.tables.specs.declared.row.Levels.{Levels}

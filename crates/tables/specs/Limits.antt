@@ -1,10 +1,11 @@
 -- The limits of rows.
 -- trade_keeps: a trade's benchmark, side, notional and fixed rate are in range.
 -- trades_stand: at most 64 trades, each in range.
--- holdings_keep: cash, lots, levels and the number of trades of an account are in range.
+-- lots_keep, levels_keep, holdings_keep: the lots, the two levels of a family, and cash, lots, levels and number of trades of an account are in range.
 -- security_keeps: price and haircut of a security are in range.
 -- is_empty, places_keep: the first places hold trades in range, and the rest nothing.
 -- figures_keep, book_keeps: obligation, available and shortfall of an account, and all of its record and places, are in range.
+-- house_keeps, constituent_keeps: the same of the house, whose obligation and shortfall carry the cover, and of a constituent.
 -- tables_keep: question 1, of a house with n accounts.
 -- no_trade, no_security: the rows that `slice_index_or` gives past the end of a table.
 use Rattle.std.specs.Prelude.{ℕ, ◌*◌, Bool, false, ◌&&◌, List, length, take, drop, ◌==◌, nat_le, slice_index_or}
@@ -56,7 +57,6 @@ figures_keep most r = nat_le r.obligation most && (nat_le r.available 3000000000
 abbrev pub book_keeps : ℕ → Book → Bool
 book_keeps most b = holdings_keep b.row && (figures_keep most b.row && places_keep b.row.trades b.places)
 
--- the house's obligation and shortfall carry the cover
 abbrev pub house_keeps : Book → Bool
 house_keeps b = book_keeps 96000000000000000 b
 

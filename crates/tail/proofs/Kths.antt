@@ -8,10 +8,10 @@ use Rattle.std.proofs.ByRecursion.{All-weaker, All-get_or, All-take, all_has_its
 use Rattle.tail.proofs.Places.{placed_take}
 use Rattle.tail.specs.Tail.{Orders, Holds, placed, ranked, count_at_least, Kth, Short}
 
-abbrev one : Bool → ℕ
+abbrev pub one : Bool → ℕ
 one b = cond b 1 0
 
-refute : (b : Bool) → (b ≡ true → ⊥) → b ≡ false
+pub refute : (b : Bool) → (b ≡ true → ⊥) → b ≡ false
 refute true h = absurd (h refl)
 refute false h = refl
 
@@ -90,7 +90,7 @@ module _ {X : Type 0} (ge : X → X → Bool) where
   among_ranked xs = all_onto (ContainsAt xs) [] xs tt (all_has_itself xs)
 
 module _ {X : Type 0} {ge : X → X → Bool} (o : Orders ge) where
-  itself : (x : X) → ge x x ≡ true
+  pub itself : (x : X) → ge x x ≡ true
   itself x = let decide : (b : Bool) → ge x x ≡ b → ge x x ≡ true = λ b. elim b as (λ v. ge x x ≡ v → ge x x ≡ true) [ true ↦ λ e. e | false ↦ λ e. o.any_two x x e ] in decide (ge x x) refl
 
   pub falls_placed : (x : X) (ys : List X) → Falls ge ys → Falls ge (placed ge x ys)

@@ -24,3 +24,14 @@ impl Ranked for i64 {
         *self >= *other
     }
 }
+
+// Changes, in paise.
+impl Ranked for i32 {
+    ghost reaches = { reaches_loss };
+
+    ghost orders = { Prim.search rules };
+
+    fn at_least(&self, other: &i32) -> bool {
+        *other <= *self
+    }
+}

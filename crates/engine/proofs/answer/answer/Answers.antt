@@ -16,7 +16,7 @@ returns-in-Account g c =
     record {
       accounts = refl;
       answered = subst (λ (x : Call). AnswersCall m k k n rs c.answer_account.new.records ts c.answer_account.new.trades x (AccountReply c.answer_account.result)) (sym c.in-Account.is)
-          (account_promised m k n rs c.answer_account.new.records ts c.answer_account.new.trades c.in-Account.named c.answer_account.result (record { answer = e.answer; rows = e.rows; trades = e.trades; keeps = e.keeps; rests = e.rests; stands = e.stands; others = e.others }));
+          (account_promised m k n c.args.house.now.some rs c.answer_account.new.records ts c.answer_account.new.trades c.in-Account.named c.answer_account.result (record { answer = e.answer; rows = e.rows; trades = e.trades; keeps = e.keeps; rests = e.rests; stands = e.stands; others = e.others }));
     }
 
 pub returns-in-Market : goal.returns-in-Market
@@ -30,5 +30,5 @@ returns-in-Market g c =
     record {
       accounts = c.answer_market.ensures.accounts;
       answered = subst (λ (x : Call). AnswersCall m k l n rs c.answer_market.new.records ts c.answer_market.new.trades x (MarketReply c.answer_market.result)) (sym c.in-Market.is)
-          (market_promised m k n rs c.answer_market.new.records ts c.answer_market.new.trades l c.in-Market.change c.answer_market.result c.answer_market.ensures.answered);
+          (market_promised m k n c.args.house.now.some rs c.answer_market.new.records ts c.answer_market.new.trades l c.in-Market.change c.answer_market.result c.answer_market.ensures.answered);
     }

@@ -19,7 +19,7 @@ finish_settling-requires g c =
     let i = c.args.account in
     let h = c.in-Ok.tried in
     ap₂ (tables_keep n) c.write_book.ensures.rows c.write_book.ensures.trades
-    ∙ put_keeps n rs ts i h.row h.places c.requires.tables c.requires.there c.write_book.ensures.long
+    ∙ put_keeps n rs ts i h.row h.places c.requires.tables c.requires.there c.write_book.ensures.len
     (after_keeps c.cover_for-cover.result.paise i h (shortfalls (drop 1 (books_of rs ts))) c.cover_for-cover.ensures.value c.cover_for-cover.result.most c.in-Ok.ensures.1)
 
 pub returns-in-Err : goal.returns-in-Err
@@ -58,7 +58,7 @@ returns-in-Ok g c =
     ∙ ap (λ (b : Book). ordered m k (eqb i 0) cover b c.args.call) (sym c.read_book-held.ensures)
     ∙ c.in-Ok.ensures.0 in
     let done = c.finish_settling.ensures.rows ∙ ap₂ (λ (us : List AccountRow) (xs : List TradeRow). rows_of (finish m (standing k us xs))) c.write_book.ensures.rows c.write_book.ensures.trades in
-    let o = granted_is m k n rs ts i c.args.call c.args.house.now.some c.requires.tables c.requires.there h.row h.places c.finish_settling.new.records v c.write_book.ensures.long done in
+    let o = granted_is m k n rs ts i c.args.call c.args.house.now.some c.requires.tables c.requires.there h.row h.places c.finish_settling.new.records v c.write_book.ensures.len done in
     record {
       answer = c.answered-in-Ok.ensures ∙ o.0;
       rows = o.1;

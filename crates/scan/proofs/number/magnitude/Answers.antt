@@ -10,7 +10,7 @@ returns-clause-value c =
     let e = read 0 c.args.word.now in
     search rules
 
-pub returns-clause-most : goal.returns-clause-most
-returns-clause-most c =
+pub returns-clause-bound : goal.returns-clause-bound
+returns-clause-bound c =
     let f : c.fold.result ≡ fold step 0 c.args.word.now = search rules in
     rw f (most c.args.word.now)

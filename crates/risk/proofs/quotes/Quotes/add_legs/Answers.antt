@@ -1,8 +1,16 @@
-use Rattle.std.proofs.Common.{◌<◌, ◌≤◌, length, get_or, take, replicate, pos, ◌+ℤ◌, nat_abs, ap, arith, w64, to_z, of_z}
+use Rattle.std.proofs.Common.{◌<◌, ◌≤◌, length, get_or, pos, ◌+ℤ◌, nat_abs, ap, arith, w64, to_z, of_z}
 use Rattle.risk.specs.Losses.{leg_of}
-use Rattle.risk.proofs.Adds.{length_front, sum_fits, added, adds_here, adds_below, adds_above}
+use Rattle.risk.proofs.Adds.{sum_fits, added, adds_here, adds_below, adds_above}
 use Rattle.risk.proofs.Legs.{product, leg_is, leg_small}
+use Rattle.risk.proofs.Signs.{fits_money}
 use Rattle.risk.proofs.quotes.Quotes.add_legs.Goals as goal
+
+pub overflow_mul-loss : goal.overflow_mul-loss
+overflow_mul-loss g c =
+    let in_space : c.loop-scenario.scenario < length c.args.changes.now = omega (arith, c.requires.space, c.requires.room) in
+    let few : nat_abs c.flow-notional.result ≤ 1000000 = omega (arith, c.flow-notional.ensures.bound) in
+    let near = leg_small (g.M.MarginModel.meaning c.args.self.now.model.now) c.args.self.now.day c.loop-scenario.scenario c.args.trade.row.now (g.M.MarginModel.lawful c.args.self.now.model.now) c.flow-notional.result (get_or c.changes.new.room c.loop-scenario.scenario (pos 0)) c.flow-notional.ensures.value few (c.changes.ensures c.loop-scenario.scenario in_space) c.args.trade.fits in
+    fits_money _ (omega (arith, near))
 
 pub overflow_add-loss : goal.overflow_add-loss
 overflow_add-loss g c =
@@ -11,7 +19,7 @@ overflow_add-loss g c =
     let i = c.loop-scenario.scenario in
     let a = get_or c.loop-scenario.room i (pos 0) in
     let change = get_or c.changes.new.room i (pos 0) in
-    let in_space : i < length (take (length c.args.room.now) (replicate 1000 (pos 0))) = omega (arith, length_front 1000 (length c.args.room.now) (pos 0) (omega (arith, c.requires.room, law.few_scenarios))) in
+    let in_space : i < length c.args.changes.now = omega (arith, c.requires.space, c.requires.room) in
     let same = c.loop-scenario.invariant.1 i (omega arith) in
     let small : nat_abs a ≤ 126000000000000 = omega (arith, ap nat_abs same, c.requires.small i) in
     let few : nat_abs c.flow-notional.result ≤ 1000000 = omega (arith, c.flow-notional.ensures.bound) in
@@ -28,7 +36,7 @@ loop-scenario-preserved g c =
     let a = get_or c.loop-scenario.room i (pos 0) in
     let x = c.flow-notional.result in
     let change = get_or c.changes.new.room i (pos 0) in
-    let in_space : i < length (take (length c.args.room.now) (replicate 1000 (pos 0))) = omega (arith, length_front 1000 (length c.args.room.now) (pos 0) (omega (arith, c.requires.room, law.few_scenarios))) in
+    let in_space : i < length c.args.changes.now = omega (arith, c.requires.space, c.requires.room) in
     let one = product x change in
     let same = c.loop-scenario.invariant.1 i (omega arith) in
     let small : nat_abs a ≤ 126000000000000 = omega (arith, ap nat_abs same, c.requires.small i) in

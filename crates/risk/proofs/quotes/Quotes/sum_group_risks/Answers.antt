@@ -2,6 +2,7 @@ use Rattle.std.proofs.Common.{ℕ, ◌+◌, arith}
 use Rattle.tables.proofs.Numbers.{sum_more}
 use Rattle.risk.specs.Groups.{group_trades}
 use Rattle.risk.specs.Losses.{var_of}
+use Rattle.risk.proofs.Alones.{groups_within}
 use Rattle.risk.proofs.Apart.{groups_most, standing}
 use Rattle.risk.proofs.quotes.Quotes.sum_group_risks.Goals as goal
 
@@ -14,6 +15,7 @@ overflow_add-sum g c =
     let stands = standing ts c.args.trades.stand in
     let few = stands.few in
     let risk : ℕ → ℕ = λ k. var_of m day (group_trades c.args.grouping day k ts) in
+    let one = c.requires c.loop-key.key (omega (arith, groups_within c.args.grouping, c.groups-key-end.ensures)) in
     record { fits = omega (arith, groups_most m day c.args.grouping ts (c.loop-key.key + 1) law stands, sum_more risk c.loop-key.key) }
 
 pub returns-clause-bound : goal.returns-clause-bound

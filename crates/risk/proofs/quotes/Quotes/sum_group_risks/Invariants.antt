@@ -5,4 +5,4 @@ use Rattle.risk.specs.Losses.{var_of}
 use Rattle.risk.proofs.quotes.Quotes.sum_group_risks.Given as goal
 
 abbrev pub invariant-loop-key : goal.invariant-loop-key
-invariant-loop-key g l = l.sum ≡ sum_below (λ k. var_of (g.M.MarginModel.meaning l.self.model.now) l.self.day (group_trades l.grouping l.self.day k l.trades.trades.now)) l.key
+invariant-loop-key g l = l.sum ≡ sum_below (λ k. var_of (g.M.MarginModel.meaning l.self.model.now) l.self.day (group_trades l.fn.grouping l.self.day k l.trades.trades.now)) l.key
