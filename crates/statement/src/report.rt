@@ -44,7 +44,7 @@ fn write_owed(text: &mut String, f: &Figures) -> anyhow::Result<()>
     Ok(())
 }
 
-// The last line, and an empty one. Its number of a restriction is that of an answer, made in `house`, on which this program does not
+// The last line of an account. Its number of a restriction is that of an answer, made in `house`, on which this program does not
 // stand; a script says it in a word.
 fn write_flags(text: &mut String, own: bool, second: bool) -> anyhow::Result<()>
     ensures { OnOk result (string_bytes text.new ≡ string_bytes text.old ++ flags_line own second) }
