@@ -1,5 +1,6 @@
 -- Steps of an account call.
 -- can_change: the change of a call can be made in a book. new_trade_keeps: the trade of a new trade is within its limits. book_in: the book that a held book is.
+-- Within: the figures of a record are within their limits.
 -- Previewed: a previewed call is refused as the verdict says, or leaves the book that the verdict grants.
 use Rattle.std.specs.Prelude.{◌≡◌, ℕ, ◌+◌, ◌≤◌, Bool, true, ◌&&◌, Ok, Err, Result, nat_le, nat_lt, slice_index}
 use Rattle.tables.specs.declared.row.AccountRow.{AccountRow}
@@ -28,7 +29,7 @@ new_trade_keeps _ = true
 abbrev pub book_in : HeldBook → Book
 book_in h = book h.row h.places
 
--- the figures of a record are within their limits, at a cover
+-- what an account owes has the cover on top, and so has what it lacks
 pub record Within (cover : ℕ) (q : AccountRow) : Type 0 where
   pub obligation : q.obligation ≤ 3000000000000000 + cover
   pub available : q.available ≤ 3000000000000000

@@ -48,7 +48,7 @@ impl HeldBook {
     // A book as it settles, at a cover: none for a constituent.
     pub fn settled<M: MarginModel>(self, model: &M, market: &Market, cover: Cover) -> HeldBook
         ensures value { book_in result ≡ settled (M.meaning model.now) market.now.state cover.paise (book_in self) }
-        ensures within { Within cover.paise result.row }
+        ensures bound { Within cover.paise result.row }
     {
         let row = settle(model, market, cover, &self.account(), self.standing());
         HeldBook::new(row, self.places())

@@ -1,13 +1,10 @@
 -- What a call of a caller in C answers and leaves.
--- wrong_tables: the reply to a call whose tables fail question 1. no_house: the answer of a market call where the house is none.
 -- RowsAnswered: any call, on any records: what the engine promises of the rows that they stand for.
 -- HouseAnswered: a market call on a house.
 -- AccountAnswered, MarketAnswered: a call on memory that may hold no house: then 255, and nothing is changed.
 use Rattle.std.specs.Prelude.{◌≡◌, ◌≢◌, ℕ, true, false, List}
 use Rattle.models.specs.Meaning.{Meaning}
 use Rattle.tables.specs.declared.row.TradeRow.{TradeRow}
-use Rattle.refusals.specs.declared.refusal.Refusal.TheVariants.{Tables}
-use Rattle.refusals.specs.Refusals.{number_of}
 use Rattle.market.specs.declared.call.MarketCall.{MarketCall}
 use Rattle.market.specs.declared.state.MarketState.{MarketState}
 use Rattle.rules.specs.declared.call.AccountCall.{AccountCall}
@@ -18,18 +15,12 @@ use Rattle.rules.specs.declared.call.MarketAnswer.{MarketAnswer}
 use Rattle.rules.specs.declared.call.Reply.{Reply}
 use Rattle.rules.specs.declared.call.Reply.TheVariants.{Account as AccountReply, Market as MarketReply}
 use Rattle.rules.specs.Outcomes.{blank_answer}
-use Rattle.rules.specs.MarketCalls.{market_answer}
+use Rattle.rules.specs.MarketCalls.{blank_market}
+use Rattle.isolation.specs.Runs.{wrong_reply}
 use Rattle.engine.specs.Promises.{AnswersCall}
 use Rattle.crows.specs.declared.row.CAccount.{CAccount}
 use Rattle.crows.specs.declared.row.CHouse.{CHouse}
 use Rattle.crows.specs.Rows.{accounts_of, accounts_fit, state_of, house_keeps}
-
-abbrev pub wrong_tables : MarketState → Call → Reply
-wrong_tables k (Account c) = AccountReply (blank_answer (number_of Tables))
-wrong_tables k (Market c) = MarketReply (market_answer (number_of Tables) k)
-
-abbrev pub no_house : MarketAnswer
-no_house = record { number = 255; month = 0; set = 0; overnight = 0; forward = 0 }
 
 -- n accounts; market k, records rs and places ts before, l, us and vs after; the call c was answered a
 pub record RowsAnswered (m : Meaning) (k l : MarketState) (n : ℕ) (rs us : List CAccount) (ts vs : List TradeRow) (c : Call) (a : Reply) : Type 0 where
@@ -37,7 +28,7 @@ pub record RowsAnswered (m : Meaning) (k l : MarketState) (n : ℕ) (rs us : Lis
   pub right : accounts_fit rs ≡ true → AnswersCall m k l n (accounts_of rs) (accounts_of us) ts vs c a
   pub fit : accounts_fit rs ≡ true → accounts_fit us ≡ true
   -- any other records fail question 1, and all is left as it was
-  pub wrong : accounts_fit rs ≡ false → (a ≡ wrong_tables k c) × (l ≡ k) × (us ≡ rs) × (vs ≡ ts)
+  pub wrong : accounts_fit rs ≡ false → (a ≡ wrong_reply k c) × (l ≡ k) × (us ≡ rs) × (vs ≡ ts)
 
 -- a market call on the house h, which became h'
 pub record HouseAnswered (m : Meaning) (h h' : CHouse) (rs us : List CAccount) (ts vs : List TradeRow) (c : MarketCall) (a : MarketAnswer) : Type 0 where
@@ -55,4 +46,4 @@ pub record AccountAnswered (m : Meaning) (h : CHouse) (rs us : List CAccount) (t
 -- a market call c likewise, with the memory h' after it
 pub record MarketAnswered (m : Meaning) (h h' : CHouse) (rs us : List CAccount) (ts vs : List TradeRow) (c : MarketCall) (a : MarketAnswer) : Type 0 where
   pub answered : house_keeps h ≡ true → HouseAnswered m h h' rs us ts vs c a
-  pub corrupt : house_keeps h ≡ false → (a ≡ no_house) × (h' ≡ h) × (us ≡ rs) × (vs ≡ ts)
+  pub corrupt : house_keeps h ≡ false → (a ≡ blank_market 255) × (h' ≡ h) × (us ≡ rs) × (vs ≡ ts)

@@ -3,13 +3,13 @@ ghost use Rattle.std.specs.Prelude.{◌≡◌, true, false};
 ghost use Rattle.rules.specs.declared.call.Call.TheVariants.{Account, Market};
 ghost use Rattle.rules.specs.declared.call.Reply.TheVariants.{Account as AccountReply, Market as MarketReply};
 ghost use Rattle.rules.specs.Outcomes.{blank_answer};
+ghost use Rattle.rules.specs.MarketCalls.{blank_market};
 ghost use Rattle.engine.specs.Promises.{AnswersCall};
 ghost use Rattle.crows.specs.Rows.{accounts_of, accounts_fit, state_of, house_keeps};
 ghost use Rattle.ccalls.specs.Meanings.{joined_meaning, model_meaning};
-ghost use Rattle.ccalls.specs.Answers.{RowsAnswered, AccountAnswered, MarketAnswered, no_house};
+ghost use Rattle.ccalls.specs.Answers.{RowsAnswered, AccountAnswered, MarketAnswered};
 
-use super::model::CModel;
-use super::parts::laid;
+use super::model::{CModel, laid};
 use super::rows::{accounts_fit, read_accounts, write_accounts};
 use crows::houses::{house_numbers, house_of};
 use crows::row::{CAccount, CHouse};
@@ -24,8 +24,11 @@ use rules::call::{AccountCall, Answer, Call, MarketAnswer, NamedCall, Reply};
 use rules::house::House;
 use tables::row::{AccountRow, TradeRow};
 
-// The number where the memory of a house holds none.
+// The number where the memory of a house holds none: no enum, since C reads it as a number.
 const NO_HOUSE: u8 = 255;
+
+// House, model, records, trades and call go down one by one, as `engine::answer` takes them: the records become rows on the way, so
+// that a struct of all five would be taken apart and made anew in the middle, and once more at the end.
 
 // A call on the engine's own rows, with the first numbers' model alone or joined with the second's. Where numbers are joined, each make
 // of the second has a call of its own, so that no question to the model looks for its make again.
@@ -71,7 +74,7 @@ fn answer_made(
     }
 }
 
-// A call on records whose flags are flags: they are read into rows of the engine, and written back. The room is an array, of which the
+// A call on at most 32 records, whose flags are flags: they are read into rows of the engine, and written back. The room is an array, of which the
 // front is used: there is no heap.
 fn answer_fit(
     house: &mut House,
@@ -111,18 +114,6 @@ fn answer_rows(
     }
 }
 
-fn no_market_answer() -> MarketAnswer
-    ensures { result ≡ no_house }
-{
-    MarketAnswer {
-        number: NO_HOUSE,
-        month: 0,
-        set: 0,
-        overnight: 0,
-        forward: 0,
-    }
-}
-
 // An account call on a house that may be none.
 pub fn answer_account(
     house: &CHouse,
@@ -134,17 +125,15 @@ pub fn answer_account(
 ) -> Answer
     ensures { AccountAnswered (model_meaning model.entry) house.now records.old records.new trades.old trades.new account call result }
 {
-    match house_of(house) {
-        Some(held) => {
-            let mut kept = held;
-            let named = NamedCall { account, call };
-            match answer_rows(&mut kept, model, records, trades, Call::Account(named)) {
-                Reply::Account(said) => said,
-                // It cannot come: an account call has an account reply.
-                Reply::Market(_) => Answer::blank(NO_HOUSE),
-            }
-        }
-        None => Answer::blank(NO_HOUSE),
+    let Some(held) = house_of(house) else {
+        return Answer::blank(NO_HOUSE);
+    };
+    let mut kept = held;
+    let named = NamedCall { account, call };
+    match answer_rows(&mut kept, model, records, trades, Call::Account(named)) {
+        Reply::Account(said) => said,
+        // It cannot come: an account call has an account reply.
+        Reply::Market(_) => Answer::blank(NO_HOUSE),
     }
 }
 
@@ -158,20 +147,18 @@ pub fn answer_market(
 ) -> MarketAnswer
     ensures { MarketAnswered (model_meaning model.entry) house.old house.new records.old records.new trades.old trades.new call result }
 {
-    match house_of(house) {
-        Some(held) => {
-            let mut kept = held;
-            match answer_rows(&mut kept, model, records, trades, Call::Market(call)) {
-                Reply::Market(said) => {
-                    if said.number == 0 {
-                        *house = house_numbers(&kept);
-                    }
-                    said
-                }
-                // It cannot come, either.
-                Reply::Account(_) => no_market_answer(),
+    let Some(held) = house_of(house) else {
+        return MarketAnswer::blank(NO_HOUSE);
+    };
+    let mut kept = held;
+    match answer_rows(&mut kept, model, records, trades, Call::Market(call)) {
+        Reply::Market(said) => {
+            if said.number == 0 {
+                *house = house_numbers(&kept);
             }
+            said
         }
-        None => no_market_answer(),
+        // It cannot come, either.
+        Reply::Account(_) => MarketAnswer::blank(NO_HOUSE),
     }
 }

@@ -6,5 +6,4 @@ pub mod making;
 pub mod model;
 pub mod numbers;
 pub mod open;
-pub mod parts;
 pub mod rows;

@@ -35,7 +35,7 @@ fn open_fit(
     trades: &mut [TradeRow],
 ) -> Result<(), Refusal>
     requires { length records.old ≤ 32 }
-    ensures refused { result ≡ first_no (opening_questions accounts month (accounts_of records.old) trades.old) }
+    ensures answer { result ≡ first_no (opening_questions accounts month (accounts_of records.old) trades.old) }
     ensures opens { Opens accounts month house.old house.new records.old records.new trades.old trades.new result }
 {
     let mut held = [empty_row(); 32];

@@ -25,7 +25,8 @@ pub struct CSecurity {
     pub listed: u8,
 }
 
-// A family. `given` is 1 where averages are given, and 2 more where thresholds are.
+// A family. `given` is 1 where averages are given, and 2 more where thresholds are. Triggers and calm marks stand by themselves, as the
+// header has them: they may not be given.
 #[repr(C)]
 #[derive(Clone, Copy)]
 pub struct CFamily {

@@ -2,7 +2,7 @@
 ghost use Rattle.ccalls.specs.Meanings.{model_meaning};
 ghost use Rattle.ccalls.specs.Answers.{MarketAnswered};
 
-use super::given::{CMarks, CReturns, check_of};
+use super::given::{CReturns, check_of};
 use ccalls::calls::answer_market;
 use ccalls::model::CModel;
 use crows::row::{CAccount, CHouse};
@@ -97,16 +97,16 @@ pub extern "C" fn domirelash_thresholds(
     records: &mut [CAccount],
     trades: &mut [TradeRow],
     family: u32,
-    marks: CMarks,
+    marks: Thresholds,
 ) -> MarketAnswer
-    ensures { MarketAnswered (model_meaning model.entry) house.old house.new records.old records.new trades.old trades.new (MarketCall.Thresholds family (record { triggers = marks.triggers; calm = marks.calm })) result }
+    ensures { MarketAnswered (model_meaning model.entry) house.old house.new records.old records.new trades.old trades.new (MarketCall.Thresholds family marks) result }
 {
     answer_market(
         house,
         model,
         records,
         trades,
-        MarketCall::Thresholds(family, Thresholds::from(marks)),
+        MarketCall::Thresholds(family, marks),
     )
 }
 

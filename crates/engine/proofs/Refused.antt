@@ -1,5 +1,5 @@
 -- A refused call changes nothing: market and both tables are as they were.
-use Rattle.std.proofs.Common.{◌≡◌, ◌≢◌, ℕ, ◌<◌, ◌≤◌, Bool, true, false, List, length, refl, ap, ◌∙◌, Ok, Err, Result}
+use Rattle.std.proofs.Common.{◌≡◌, ◌≢◌, ℕ, ◌≤◌, Bool, true, false, List, length, refl, ap, ◌∙◌, Ok, Err, Result}
 use Rattle.std.specs.Prelude.{nat_lt, slice_index_or, if◌then◌else◌}
 use Rattle.models.specs.Meaning.{Meaning}
 use Rattle.refusals.specs.declared.refusal.Refusal.{Refusal}
@@ -17,7 +17,6 @@ use Rattle.rules.specs.Outcomes.{verdict_number, account_outcome, Outcome, answe
 use Rattle.rules.specs.MarketCalls.{market_outcome, MarketOutcome, all_settled, after_market, market_answer, market_reply}
 use Rattle.house.proofs.Lent.{rows_stand, trades_stand}
 use Rattle.rules.specs.declared.call.Answer.{Answer}
-use Rattle.rules.specs.declared.call.MarketAnswer.{MarketAnswer}
 use Rattle.refusals.specs.declared.refusal.Refusal.TheVariants.{NoAccount, Tables}
 
 module _ (m : Meaning) (k : MarketState) (n : ℕ) (some : 1 ≤ n) (rs : List AccountRow) (ts : List TradeRow) where

@@ -22,7 +22,7 @@ fn play_event<M: MarginModel>(
 ) -> Reply
     requires { tables_keep house.old.accounts records.old trades.old ≡ true }
     ensures accounts { house.new.accounts ≡ house.old.accounts }
-    ensures replied { result ≡ reply (M.meaning model.now) (standing house.old.market.state records.old trades.old) event }
+    ensures answer { result ≡ reply (M.meaning model.now) (standing house.old.market.state records.old trades.old) event }
     ensures stands { standing house.new.market.state records.new trades.new ≡ after (M.meaning model.now) (standing house.old.market.state records.old trades.old) event }
     ensures keeps { tables_keep house.new.accounts records.new trades.new ≡ true }
 {
@@ -32,7 +32,8 @@ fn play_event<M: MarginModel>(
     }
 }
 
-// The events on tables that keep their limits. No loop in common with `house::listing`, which says why.
+// The events on tables that keep their limits. No loop in common with `house::listing`, which says why. By index, since of a `zip` with
+// an `iter_mut` a proof does not learn what was written.
 fn play_events<M: MarginModel>(
     house: &mut House,
     model: &M,
@@ -44,7 +45,7 @@ fn play_events<M: MarginModel>(
     requires { tables_keep house.old.accounts records.old trades.old ≡ true }
     ensures accounts { house.new.accounts ≡ house.old.accounts }
     ensures count { result ≡ min (length events.now) (length answers.old) }
-    ensures replied { take result answers.new ≡ replies (M.meaning model.now) (standing house.old.market.state records.old trades.old) (take result events.now) }
+    ensures answers { take result answers.new ≡ replies (M.meaning model.now) (standing house.old.market.state records.old trades.old) (take result events.now) }
     ensures rest { drop result answers.new ≡ drop result answers.old }
     ensures stands { standing house.new.market.state records.new trades.new ≡ run (M.meaning model.now) (standing house.old.market.state records.old trades.old) (take result events.now) }
     ensures keeps { tables_keep house.old.accounts records.new trades.new ≡ true }
@@ -60,8 +61,7 @@ fn play_events<M: MarginModel>(
 
 // Plays as many of the events as there is room for their replies, and gives how many they are: the room is the caller's, since no
 // heap is used here.
-// None is played where the tables fail question 1. Its other list, of account calls with their answers, is `house::listing`: the two
-// answer in different types. By index, since of a `zip` with an `iter_mut` a proof does not learn what was written.
+// None is played where the tables fail question 1. A list of account calls alone, with their answers, is `house::listing`.
 pub fn replay<M: MarginModel>(
     house: &mut House,
     model: &M,

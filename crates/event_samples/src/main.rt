@@ -3,17 +3,8 @@
 #![tactic(auto)]
 
 use eventrun::lines::transcript;
-use std::env;
-use std::io::Write;
+use samples::print_runs;
 
 fn main(rt: HostRuntime) -> anyhow::Result<()> {
-    let names: Vec<String> = env::args(&rt)?.skip(1).collect(rt.alloc())?;
-    let text = samples::run(
-        &rt,
-        names.as_slice(),
-        "ev",
-        |rt, bytes| transcript(rt.alloc(), bytes),
-    )?;
-    rt.stdout().write_all(text.as_bytes())?;
-    Ok(())
+    print_runs(&rt, "ev", |rt, bytes| transcript(rt.alloc(), bytes))
 }

@@ -1,2 +1,3 @@
 pub mod Answered
 pub mod Opened
+pub mod Skips

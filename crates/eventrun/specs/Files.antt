@@ -1,5 +1,5 @@
 -- An event file played on a house of its own.
--- opening_number: the number of an opening whose tables have the right lengths.
+-- opening_number: the number of an opening whose tables have the right lengths. It is that of `opening_result` of crate `session`, on which this crate does not stand.
 -- opening_in: the number of the opening of a file, if there is one. tables_after: the tables that an accepted opening and the calls after it leave. answers_in: the answers to the records after an accepted opening. answer_in: the answer in a reply.
 -- IsolatedFile: the isolation of the run. Plays: the number and the answers of played records, and their isolation. IsFileRun: what the run of a file holds: its records, its fault and its answers.
 use Rattle.std.specs.Prelude.{◌≡◌, ℕ, if◌then◌else◌, List, [], ◌∷◌, map, Some, None, vec_items, Option, ◌==◌}

@@ -1,4 +1,4 @@
--- The lines that the run of an event file prints: words and decimal numbers with a blank (byte 32) between two, and a line feed (10) at the end.
+-- The lines that the run of an event file prints: words and decimal numbers, as `line` of crate `scan` puts them together.
 --   opening_line   of the opening, if there is one: record 1, kind 1, and its number
 --   answer_line    of the answer to record n: the record, its kind, and the answer
 --   answer_lines   of the answers to records that are numbered from n
@@ -6,9 +6,9 @@
 --   run_text       what a run on a model prints of a file
 --   transcript_of  what is printed of a file: the run on the model of which every number is 0
 use Rattle.std.specs.Prelude.{ℕ, zero, suc, ◌+◌, List, [], ◌∷◌, ◌++◌, drop, Some, None, Option, codes}
-use Rattle.std.specs.List.{join_with_byte}
 use Rattle.std.specs.Fmt.{decimal}
 use Rattle.models.specs.Meaning.{Meaning}
+use Rattle.scan.specs.Texts.{line}
 use Rattle.modelfile.specs.Default.{zero_table}
 use Rattle.events.specs.Files.{events_of, fault_of}
 use Rattle.events.specs.Kinds.{code_of, event_kind}
@@ -18,9 +18,6 @@ use Rattle.events.specs.declared.fault.Fault.{Fault}
 use Rattle.rules.specs.Printing.{answer_text}
 use Rattle.rules.specs.declared.call.Answer.{Answer}
 use Rattle.eventrun.specs.Files.{opening_in, answers_in}
-
-abbrev pub line : List (List ℕ) → List ℕ
-line words = join_with_byte 32 words ++ 10 ∷ []
 
 abbrev pub opening_line : Option ℕ → List ℕ
 opening_line None = []

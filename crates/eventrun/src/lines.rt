@@ -1,5 +1,6 @@
 // The lines that a run prints.
-ghost use Rattle.std.specs.Prelude.{◌≡◌, ◌++◌, drop, string_bytes, OnOk, IfOk};
+ghost use Rattle.std.specs.Prelude.{◌≡◌, drop, string_bytes, IfOk};
+ghost use Rattle.scan.specs.Texts.{Gains};
 ghost use Rattle.eventrun.specs.Lines.{opening_line, answer_line, answer_lines, fault_line, run_text, transcript_of};
 
 use super::play::run_file;
@@ -13,7 +14,7 @@ use std::fmt::Write;
 
 // The line of the opening, if there is one.
 fn write_opening(text: &mut String, number: Option<u8>) -> anyhow::Result<()>
-    ensures { OnOk result (string_bytes text.new ≡ string_bytes text.old ++ opening_line number) }
+    ensures { Gains result text.old text.new (opening_line number) }
 {
     if let Some(number) = number {
         writeln!(text, "1 1 {number}")?;
@@ -27,7 +28,7 @@ fn write_answer(
     event: Event,
     answer: &Answer,
 ) -> anyhow::Result<()>
-    ensures { OnOk result (string_bytes text.new ≡ string_bytes text.old ++ answer_line ordinal event answer.now) }
+    ensures { Gains result text.old text.new (answer_line ordinal event answer.now) }
 {
     let kind = event.kind().code();
     writeln!(text, "{ordinal} {kind} {answer}")?;
@@ -36,24 +37,22 @@ fn write_answer(
 
 // A line for each answer. The first answers the second record.
 fn write_answers(text: &mut String, records: &[Event], answers: &[Answer]) -> anyhow::Result<()>
-    ensures { OnOk result (string_bytes text.new ≡ string_bytes text.old ++ answer_lines 2 (drop 1 records.now) answers.now) }
+    ensures { Gains result text.old text.new (answer_lines 2 (drop 1 records.now) answers.now) }
 {
-    let [_, later @ ..] = records else {
-        return Ok(());
-    };
-    for ((place, event), answer) in (1..records.len()).zip(later).zip(answers) {
-        write_answer(text, place + 1, *event, answer)?;
+    for (place, (event, answer)) in records.iter().skip(1).zip(answers).enumerate() {
+        write_answer(text, place + 2, *event, answer)?;
     }
     Ok(())
 }
 
 // The line of the fault, if there is one. A refused opening has the last line.
 fn write_fault(text: &mut String, number: Option<u8>, fault: Option<Fault>) -> anyhow::Result<()>
-    ensures { OnOk result (string_bytes text.new ≡ string_bytes text.old ++ fault_line number fault) }
+    ensures { Gains result text.old text.new (fault_line number fault) }
 {
-    match (number, fault) {
-        (None | Some(0), Some(fault)) => writeln!(text, "{fault}")?,
-        _ => {}
+    if let Some(fault) = fault
+        && matches!(number, None | Some(0))
+    {
+        writeln!(text, "{fault}")?;
     }
     Ok(())
 }

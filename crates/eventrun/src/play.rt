@@ -27,10 +27,11 @@ pub struct Found {
     pub fault: Option<Fault>,
 }
 
-// The number of the opening, if there is one, and the answers to the records after an accepted one. The number is plain,
-// as `open` answers it.
+// How the opening ended, if there is one, and the answers to the records after an accepted one.
 #[derive(Drop)]
 pub struct Played {
+    // 0 or the refusal's number, which the line prints and which is said of a file's run; a `Result` would be turned into it
+    // where it is printed.
     pub number: Option<u8>,
     pub answers: Vec<Answer>,
 }

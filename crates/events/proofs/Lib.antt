@@ -5,3 +5,4 @@ pub mod Encodes
 pub mod Rewrites
 pub mod Placed
 pub mod Fills
+pub mod Premises

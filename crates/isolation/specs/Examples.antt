@@ -1,10 +1,13 @@
 -- Examples of the law, by computation: a house with two constituents, opened in month 300, on a model whose rates, tick values and changes are 0.
 -- Account 1 is C. C's and the house's own trades owe 5,000,000 each; C has 5,400,000 and then 5,900,000, the house 5,100,000.
+-- still: that model. swap, back: a trade, and its opposite. by: a call of an account. lodges, trades, adds, looks: what C asks.
 -- quiet: C is under its second flag since the house is restricted. turning: between two of C's calls the restriction goes and comes, and C is released.
 -- busy: turning, with other calls of the house and of account 2 in the place of the house's.
+-- told, answers: what C is told, and how it is answered. says: such an answer. told_house, answers_house: the like for the house.
 -- at_calls: what is told at the events that concern a holder, without the changes between them.
 -- level, swelling, shared: the like for the house, which owes 5,000,000 and has 5,400,000. level: no other calls. swelling: between two of
 -- its calls account 1 ends one of two opposite trades, owes 5,000,000, and lodges it. shared: account 2 does so, and account 1 does other things.
+-- Examples: what holds of all these.
 use Rattle.std.specs.Prelude.{◌≡◌, ℕ, Bool, true, false, List, [], ◌∷◌, ◌≢◌, pos}
 use Rattle.models.specs.Meaning.{Meaning}
 use Rattle.tables.specs.declared.row.TradeRow.{TradeRow}

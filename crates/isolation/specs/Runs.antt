@@ -1,11 +1,14 @@
 -- Lists of calls.
 -- after, reply: what an event makes of a stand, and what it is answered. run, replies: the same of a list of events.
+-- after_call, call_reply: the same of a call on tables that keep their limits. wrong_reply: the reply to a call whose tables fail question 1.
 -- opened: the stand that an accepted opening with n accounts in a month leaves.
--- accepted: what the accepted calls of a list move for one account, by some measure of a call.
+-- moved_by, moved: what a call, and an event, moves for one account, by some measure of a call.
+-- accepted: what the accepted calls of a list move for it.
 use Rattle.std.specs.Prelude.{ℕ, ◌+◌, if◌then◌else◌, List, [], ◌∷◌, ◌==◌}
 use Rattle.models.specs.Meaning.{Meaning}
 use Rattle.refusals.specs.declared.refusal.Refusal.TheVariants.{Tables}
 use Rattle.refusals.specs.Refusals.{number_of}
+use Rattle.market.specs.declared.state.MarketState.{MarketState}
 use Rattle.rules.specs.declared.call.AccountCall.{AccountCall}
 use Rattle.rules.specs.declared.call.Call.{Call}
 use Rattle.rules.specs.declared.call.Call.TheVariants.{Account, Market}
@@ -32,13 +35,13 @@ abbrev pub call_reply : Meaning → Stand → Call → Reply
 call_reply m s (Account c) = AccountReply (account_reply m s c.account c.call)
 call_reply m s (Market c) = MarketReply (market_reply m s c)
 
-abbrev pub wrong_reply : Stand → Call → Reply
-wrong_reply s (Account c) = AccountReply (blank_answer (number_of Tables))
-wrong_reply s (Market c) = MarketReply (market_answer (number_of Tables) s.market)
+abbrev pub wrong_reply : MarketState → Call → Reply
+wrong_reply k (Account c) = AccountReply (blank_answer (number_of Tables))
+wrong_reply k (Market c) = MarketReply (market_answer (number_of Tables) k)
 
 abbrev pub reply : Meaning → Stand → Event → Reply
 reply m s (RightTables c) = call_reply m s c
-reply m s (WrongTables c) = wrong_reply s c
+reply m s (WrongTables c) = wrong_reply s.market c
 
 abbrev pub run : Meaning → Stand → List Event → Stand
 run m s [] = s

@@ -5,12 +5,12 @@
 --   value_at       the value of a residual whose neighbouring knots have these places and values
 --   Between        a value between low and high, whichever of them is the larger
 --   Interpolates   the law that the values of all residuals keep
-use Rattle.std.specs.Prelude.{◌≡◌, ℕ, ◌+◌, ◌-◌, ◌/◌, ◌<◌, cond, ◌⊎◌, ℤ, pos, negsuc, ◌+ℤ◌, ◌-ℤ◌, ◌*ℤ◌, ◌≤ℤ◌, ◌<ℤ◌, ◌==◌}
+use Rattle.std.specs.Prelude.{◌≡◌, ℕ, ◌+◌, ◌-◌, ◌<◌, cond, ◌⊎◌, ℤ, pos, ◌+ℤ◌, ◌-ℤ◌, ◌*ℤ◌, ◌≤ℤ◌, ◌<ℤ◌, ◌==◌}
+use Rattle.std.specs.Int.{int_div_euclid}
 use Rattle.knots.specs.Knots.{knot}
 
 abbrev pub floor : ℤ → ℕ → ℤ
-floor (pos a) d = pos (a / d)
-floor (negsuc a) d = negsuc (a / d)
+floor z d = int_div_euclid z (pos d)
 
 -- d times q is not above z, and d more is
 abbrev pub RoundedDown : ℤ → ℕ → ℤ → Type 0

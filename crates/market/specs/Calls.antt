@@ -2,7 +2,8 @@
 -- with_day, with_percent, with_family, with_security: a market state with its month and set, its step-up, a family or a security replaced.
 -- with_averages, with_thresholds: a family with other averages or thresholds.
 -- quoted: the row that a quote gives. quote_fits, return_fits, returns_fit, is_given, slot_fits, month_fits: the tests of the questions.
--- set_questions and its like: the questions of each call after question 1, in their order. market_questions: of any; `sets` is how many sets the call's model has.
+-- set_questions, price_questions, step_up_questions, averages_questions, thresholds_questions, check_questions, month_questions: the questions of
+-- each such call after question 1, in their order. market_questions: of any; `sets` is how many sets the call's model has.
 -- calm_returns: every return is below its calm mark. checked_by, checked: a family after a volatility check.
 -- volatility_after_day, closed_family: the per cent of a family, and the family, after the day.
 -- market_changed: the market state after an accepted call. can_change: the change can be made as it stands.

@@ -16,7 +16,8 @@ pub struct Averages {
 }
 
 // The five triggers and five calm marks of a family, in millionths: two arrays, since five triggers and then five marks
-// are published and passed.
+// are published and passed. It is part of the C interface.
+#[repr(C)]
 #[derive(Clone, Copy)]
 pub struct Thresholds {
     pub triggers: [u32; 5],

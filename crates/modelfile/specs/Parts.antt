@@ -2,7 +2,8 @@
 --   Answer        what a text gives: a model's meaning, a refusal of its numbers, or it is no model's text
 --   Part          what its words and numbers are for one model: they stop with an answer, or there are
 --                 numbers of a kind of model and the text after them
---   counts_fit    whether a model may have so many sets and scenarios
+--   counts_fit    whether a model may have so many sets and scenarios: the test of the fact `Counts` of crate `models`,
+--                 since a part is worked out by a test and no fact decides between two
 --   part_of       the part that stands first in a text: a name, two counts, and the numbers of three tables
 --   Makes         the numbers of a part make a model of this meaning, with this text after it
 --   EndsWith      a part ends with this answer: it stopped with it, or its numbers are refused with it

@@ -1,4 +1,10 @@
 -- What some texts give. Assumes nothing.
+--   nothing_written    an empty text is no model's
+--   another_name       nor is one whose first word names no kind of model
+--   one_count          nor one of a table model with one count
+--   nine_sets          nine sets are refused for the counts, before any word after them is read
+--   sets_below_zero    so is a count below zero, after the word `joined` too
+--   no_number          a word that is no number ends a text that lacks numbers, and then it is no model's
 use Rattle.std.specs.Prelude.{codes, refl}
 use Rattle.std.proofs.Common.{inl}
 use Rattle.models.specs.declared.refusal.MakingRefusal.TheVariants.{WrongCounts}
@@ -17,7 +23,6 @@ pub one_count : Gives (codes "table 9") malformed
 unfolding part_of
 one_count = inl refl
 
--- the counts are refused before any word after them is read
 pub nine_sets : Gives (codes "table 9 20 x") (refused WrongCounts)
 unfolding part_of
 nine_sets = inl refl

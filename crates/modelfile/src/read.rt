@@ -55,20 +55,18 @@ fn next_count(scan: &mut Scan) -> Option<u32>
     ensures value { result ≡ size_by (number_of (word_of scan.old.rest.now)) }
     ensures after { scan.new.rest.now ≡ after_number scan.old.rest.now }
 {
-    next_number(scan).map(|n| u32::hold(n))
+    next_number(scan).map(u32::hold)
 }
 
-// The numbers that come next, at most so many, as a table holds them. The range only counts: a word that is no number ends
-// it, and a push may fail, which a chain with `map_while` has no place for.
+// The numbers that come next, at most so many, as a table holds them.
 fn next_numbers<T: Hold>(heap: Global, scan: &mut Scan, most: usize) -> Result<Vec<T>, AllocError>
     ensures { IfOk result (λ v. (v.items ≡ map T.held (taken most scan.old.rest.now)) × (scan.new.rest.now ≡ left most scan.old.rest.now)) }
 {
     let mut found = Vec::with_capacity(heap, most)?;
-    for i in 0..most {
-        match next_number(scan) {
-            Some(n) => found.push(T::hold(n))?,
-            None => return Ok(found),
-        }
+    while found.len() < most
+        && let Some(n) = next_number(scan)
+    {
+        found.push(T::hold(n))?;
     }
     Ok(found)
 }
@@ -100,7 +98,7 @@ fn read_head(scan: &mut Scan) -> Result<Head, LoadRefusal>
     let sets = next_count(scan).ok_or(LoadRefusal::Malformed)?;
     let scenarios = next_count(scan).ok_or(LoadRefusal::Malformed)?;
     if !counts_fit(sets, scenarios) {
-        return Err(LoadRefusal::Making(MakingRefusal::WrongCounts));
+        return Err(MakingRefusal::WrongCounts.into());
     }
     Ok(Head {
         kind,
@@ -134,7 +132,7 @@ fn read_tables(heap: Global, scan: &mut Scan, head: Head) -> Result<NamedNumbers
     let mut ahead = *scan;
     let word = ahead.word();
     if number(word).is_some() {
-        return Err(LoadRefusal::Making(MakingRefusal::WrongLengths));
+        return Err(MakingRefusal::WrongLengths.into());
     }
     if !may_follow(word) {
         return Err(LoadRefusal::Malformed);

@@ -42,7 +42,8 @@ fn volume(cells: u32, sets: u32, scenarios: u32) -> usize
     cells as usize * sets as usize * scenarios as usize
 }
 
-// Whether the tables are as long as the counts ask. The length of the first two is a product written here and in `volume`.
+// Whether the tables are as long as the counts ask. The length of the first two is one product, written here, in `volume`
+// and where a model's text is read.
 fn lengths_fit(cells: u32, numbers: Numbers) -> bool
     requires { Counts numbers.sets numbers.scenarios }
     ensures { Decides result (Lengths cells (lent numbers.entry)) }

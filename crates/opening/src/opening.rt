@@ -132,7 +132,7 @@ pub fn open_house(
     records: &mut [AccountRow],
     trades: &mut [TradeRow],
 ) -> Result<(), Refusal>
-    ensures refused { result ≡ first_no (opening_questions accounts month records.old trades.old) }
+    ensures answer { result ≡ first_no (opening_questions accounts month records.old trades.old) }
     ensures accounts { house.new.accounts ≡ decided result accounts (λ e. house.old.accounts) }
     ensures market { house.new.market.state ≡ decided result (opened_market month) (λ e. house.old.market.state) }
     ensures rows { records.new ≡ decided result (opened_rows accounts) (λ e. records.old) }

@@ -1,8 +1,8 @@
 -- A row of losses, one trade more.
-use Rattle.std.proofs.Common.{◌≡◌, ℕ, ◌+◌, ◌<◌, ◌≤◌, List, length, get_or, take, set, replicate, ℤ, pos, ◌+ℤ◌, nat_abs, sym, ap, ◌∙◌, ⊎_elim, arith, w64, SFits, to_z, of_z}
+use Rattle.std.proofs.Common.{◌≡◌, ℕ, ◌+◌, ◌<◌, ◌≤◌, List, length, get_or, take, set, ℤ, pos, ◌+ℤ◌, nat_abs, sym, ap, ◌∙◌, ⊎_elim, arith, w64, SFits, to_z, of_z}
 use Rattle.std.proofs.lemmas.Int.{to_z-of_z}
 use Rattle.std.proofs.lemmas.Bool.{cases_eq, cases_lt}
-use Rattle.std.proofs.lemmas.List.{get_or-set_same, get_or-set_other, get_or_past, get_or-take, get_or-replicate, length-take, length-replicate, length-take-le}
+use Rattle.std.proofs.lemmas.List.{get_or-set_same, get_or-set_other, get_or_past, length-take-le}
 use Rattle.std.proofs.lemmas.List.Elements.{All-take}
 use Rattle.std.proofs.lemmas.List.FromFn.{fill_by_all}
 use Rattle.models.specs.Meaning.{Meaning, Lawful}
@@ -41,29 +41,15 @@ module _ (f : ℕ → ℤ) (xs ys : List ℤ) (j : ℕ) (v : ℤ) where
   pub adds_above : ((k : ℕ) → j ≤ k → get_or ys k (pos 0) ≡ get_or xs k (pos 0)) → (k : ℕ) → j + 1 ≤ k → get_or (set ys j v) k (pos 0) ≡ get_or xs k (pos 0)
   adds_above so_far k h = get_or-set_other ys j k v (pos 0) (λ e. omega arith) ∙ so_far k (omega arith)
 
-module _ (m : Meaning) (d : Day) (ts : List TradeRow) (room : List ℤ) where
+module _ (m : Meaning) (d : Day) (ts : List TradeRow) (xs : List ℤ) where
   -- before a trade more is added, no loss is far from 0
-  pub room_small : (i n : ℕ) → Lawful m → Standing ts → i < length ts → length room ≡ n → ((j : ℕ) → j < n → get_or room j (pos 0) ≡ loss_of m d j (take i ts)) → (j : ℕ) → nat_abs (get_or room j (pos 0)) ≤ 126000000000000
-  room_small i n law h lt len is j =
+  pub losses_small : (i n : ℕ) → Lawful m → Standing ts → i < length ts → length xs ≡ n → ((j : ℕ) → j < n → get_or xs j (pos 0) ≡ loss_of m d j (take i ts)) → (j : ℕ) → nat_abs (get_or xs j (pos 0)) ≤ 126000000000000
+  losses_small i n law h lt len is j =
       ⊎_elim
       (λ in'. let size = loss_most m d j (take i ts) law (All-take TradeFits i ts h.each) in let e = ap nat_abs (is j in') in omega (arith, h.few, length-take-le i ts (omega arith)))
-      (λ past. let e = ap nat_abs (get_or_past room j (pos 0) (omega arith)) in omega arith)
+      (λ past. let e = ap nat_abs (get_or_past xs j (pos 0) (omega arith)) in omega arith)
       (cases_lt j n)
 
-  pub room_is : length room ≡ m.scenarios → ((j : ℕ) → j < m.scenarios → get_or room j (pos 0) ≡ loss_of m d j ts) → room ≡ losses_of m d ts
+  pub losses_are : length xs ≡ m.scenarios → ((j : ℕ) → j < m.scenarios → get_or xs j (pos 0) ≡ loss_of m d j ts) → xs ≡ losses_of m d ts
   unfolding losses_of
-  room_is len is = fill_by_all (λ j. loss_of m d j ts) room m.scenarios (pos 0) len is
-
--- the front of a room that is 0 throughout, as the code cuts it
-nil_replicate : (n j : ℕ) → get_or (replicate n (pos 0)) j (pos 0) ≡ pos 0
-nil_replicate n j = ⊎_elim (λ lt. get_or-replicate n j (pos 0) (pos 0) lt) (λ past. get_or_past (replicate n (pos 0)) j (pos 0) (omega (arith, length-replicate n (pos 0)))) (cases_lt j n)
-
-pub nil_front : (n k j : ℕ) → get_or (take k (replicate n (pos 0))) j (pos 0) ≡ pos 0
-nil_front n k j =
-    ⊎_elim
-    (λ lt. get_or-take k (replicate n (pos 0)) j (pos 0) lt ∙ nil_replicate n j)
-    (λ past. get_or_past (take k (replicate n (pos 0))) j (pos 0) (omega (arith, length-take k (replicate n (pos 0)))))
-    (cases_lt j k)
-
-pub length_front : {X : Type 0} (n k : ℕ) (x : X) → k ≤ n → length (take k (replicate n x)) ≡ k
-length_front n k x h = length-take-le k (replicate n x) (omega (arith, length-replicate n x))
+  losses_are len is = fill_by_all (λ j. loss_of m d j ts) xs m.scenarios (pos 0) len is

@@ -1,9 +1,9 @@
 -- Trades that are all of one benchmark and residual: one group has all of them, and every other group has none.
-use Rattle.std.proofs.Common.{◌≡◌, ℕ, zero, suc, ◌+◌, ◌/◌, ◌<◌, ◌≤◌, min, Bool, true, false, cond, ◌⊎◌, inl, inr, List, [], ◌∷◌, ◌++◌, length, get_or, take, set, replicate, filter, refl, sym, ap, subst, true≢false, ◌≢◌, ◌∙◌, ⊎_elim, arith}
+use Rattle.std.proofs.Common.{◌≡◌, ℕ, zero, suc, ◌/◌, ◌<◌, ◌≤◌, min, Bool, true, false, cond, ◌⊎◌, inl, inr, List, [], ◌∷◌, Option, Some, None, IfSome, MatchOption, is_some, unwrap_or, length, get_or, take, replicate, filter, refl, sym, ap, subst, true≢false, ◌≢◌, ◌∙◌, ⊎_elim, arith}
 use Rattle.std.specs.Prelude.{◌==◌, nat_le}
 use Rattle.std.specs.List.{All, list_all}
 use Rattle.std.proofs.lemmas.Bool.{cases_Bool, false_from_ne_true, cases_eq, cases_lt, and_parts, eqb-true, eq-eqb, ne_eqb, leb-true}
-use Rattle.std.proofs.lemmas.List.{get_or_past, get_or-set_same, get_or-set_other, get_or-replicate, length-replicate, take_more, take_all}
+use Rattle.std.proofs.lemmas.List.{get_or_past, get_or-replicate, length-replicate, take_all}
 use Rattle.std.proofs.lemmas.List.Elements.{All-head, All-tail, All-weaker, All-get_or, filter_passes}
 use Rattle.tables.specs.Limits.{trade_keeps, trades_stand, no_trade}
 use Rattle.tables.specs.Numbers.{sum_below}
@@ -14,28 +14,24 @@ use Rattle.market.specs.declared.day.Day.{Day}
 use Rattle.market.specs.Days.{residual_of}
 use Rattle.risk.specs.declared.grouping.Grouping.{Grouping}
 use Rattle.risk.specs.declared.grouping.Grouping.TheVariants.{ByResidual, ByHalfYear, ByBenchmark}
-use Rattle.risk.specs.Groups.{alike, key_of, groups_of, group_trades}
+use Rattle.risk.specs.Groups.{alike, key_of, groups_of, group_trades, LoneTrade}
 use Rattle.risk.specs.Losses.{var_of}
-use Rattle.risk.specs.Initial.{grouped_risk}
+use Rattle.risk.specs.Initial.{KnownRisks, KnownLone, grouped_risk}
 use Rattle.risk.proofs.Risks.{var_none}
 
 -- filters
 module _ {X : Type 0} (p : X → Bool) where
-  pub filter_all : (xs : List X) → All (λ x. p x ≡ true) xs → filter p xs ≡ xs
+  filter_all : (xs : List X) → All (λ x. p x ≡ true) xs → filter p xs ≡ xs
   filter_all [] h = refl
   filter_all (x ∷ xs) h =
       ap (λ b. cond b (x ∷ filter p xs) (filter p xs)) (All-head (λ y. p y ≡ true) x xs h)
       ∙ ap (λ u. x ∷ u) (filter_all xs (All-tail (λ y. p y ≡ true) x xs h))
 
-  pub filter_none : (xs : List X) → All (λ x. p x ≡ false) xs → filter p xs ≡ []
+  filter_none : (xs : List X) → All (λ x. p x ≡ false) xs → filter p xs ≡ []
   filter_none [] h = refl
   filter_none (x ∷ xs) h =
       ap (λ b. cond b (x ∷ filter p xs) (filter p xs)) (All-head (λ y. p y ≡ false) x xs h)
       ∙ filter_none xs (All-tail (λ y. p y ≡ false) x xs h)
-
-  pub filter_push : (xs : List X) (x : X) → p x ≡ false → filter p (xs ++ x ∷ []) ≡ filter p xs
-  filter_push [] x h = ap (λ b. cond b (x ∷ []) []) h
-  filter_push (y ∷ ys) x h = ap (λ u. cond (p y) (y ∷ u) u) (filter_push ys x h)
 
 -- a test that passes only what another passes, and all that the other keeps, keeps the same
 module _ {X : Type 0} (p q : X → Bool) (finer : (x : X) → q x ≡ true → p x ≡ true) where
@@ -51,41 +47,40 @@ module _ {X : Type 0} (p q : X → Bool) (finer : (x : X) → q x ≡ true → p
       let out : q x ≡ false = false_from_ne_true (q x) (λ f. true≢false (sym (finer x f) ∙ e)) in
       ap (λ b. cond b (x ∷ filter q xs) (filter q xs)) out ∙ rest (subst (All (λ y. q y ≡ true)) kept h) ∙ sym kept
 
-  pub filter_finer : (xs : List X) → All (λ x. q x ≡ true) (filter p xs) → filter q xs ≡ filter p xs
+  filter_finer : (xs : List X) → All (λ x. q x ≡ true) (filter p xs) → filter q xs ≡ filter p xs
   filter_finer [] h = refl
   filter_finer (x ∷ xs) h = finer_more x xs h (filter_finer xs) (cases_Bool (p x))
 
+-- an answer that may be missing
+value_or_nought : (o : Option ℕ) (P : Type 0) (v : ℕ) → (P → v ≡ 0) → MatchOption o P (λ u. u ≡ v) → unwrap_or o 0 ≡ v
+value_or_nought None P v none h = sym (none h)
+value_or_nought (Some u) P v none h = h
+
+abbrev nothing : Option ℕ
+nothing = None
+
+nothing_known : (n k : ℕ) → get_or (replicate n nothing) k nothing ≡ nothing
+nothing_known n k = ⊎_elim (λ lt. get_or-replicate n k nothing nothing lt) (λ past. get_or_past (replicate n nothing) k nothing (omega (arith, length-replicate n nothing))) (cases_lt k n)
+
+pub nothing_if : (n k : ℕ) (P : ℕ → Type 0) → IfSome (get_or (replicate n nothing) k nothing) P
+nothing_if n k P = subst (λ o. IfSome o P) (sym (nothing_known n k)) tt
+
+pub some_has : {A : Type 0} (o : Option A) (P : A → Type 0) → is_some o ≡ true → IfSome o P → (x : A) × P x
+some_has None P some h = absurd (true≢false (sym some))
+some_has (Some x) P some h = (x, h)
+
 -- what is known of each group after some of the elements: its value, or nothing yet, as none of them is in it
 module _ {X : Type 0} (key : X → ℕ) (value : ℕ → ℕ) where
-  abbrev pub Known : List ℕ → List X → ℕ → Type 0
-  Known vs xs k = (get_or vs k 0 ≡ value k) ⊎ ((get_or vs k 0 ≡ 0) × (filter (λ x. key x == k) xs ≡ []))
+  abbrev pub Known : List (Option ℕ) → List X → ℕ → Type 0
+  Known vs xs k = MatchOption (get_or vs k None) (filter (λ x. key x == k) xs ≡ []) (λ v. v ≡ value k)
 
-  pub known_first : (n k : ℕ) → Known (replicate n 0) [] k
-  known_first n k = inr (⊎_elim (λ lt. get_or-replicate n k 0 0 lt) (λ past. get_or_past (replicate n 0) k 0 (omega (arith, length-replicate {A = ℕ} n 0))) (cases_lt k n), refl)
+  pub known_first : (n k : ℕ) → Known (replicate n None) [] k
+  known_first n k = subst (λ o. MatchOption o (filter (λ x. key x == k) [] ≡ []) (λ v. v ≡ value k)) (sym (nothing_known n k)) refl
 
-  pub known_or_nought : (vs : List ℕ) (xs : List X) (k : ℕ) → Known vs xs k → (get_or vs k 0 ≡ 0) ⊎ (get_or vs k 0 ≡ value k)
-  known_or_nought vs xs k h = ⊎_elim (λ e. inr e) (λ e. inl e.0) h
-
-  pub known_more : (vs : List ℕ) (xs : List X) (i q v : ℕ) (d : X) → i < length xs → key (get_or xs i d) ≡ q → q < length vs → v ≡ value q → ((k : ℕ) → Known vs (take i xs) k) → (k : ℕ) → Known (set vs q v) (take (i + 1) xs) k
-  known_more vs xs i q v d lt is room got h k =
-      ⊎_elim
-      (λ same. inl (ap (λ j. get_or (set vs q v) j 0) same ∙ get_or-set_same vs q v 0 room ∙ got ∙ ap value (sym same)))
-      (λ other.
-      let stays = get_or-set_other vs q k v 0 other in
-      ⊎_elim
-      (λ e. inl (stays ∙ e))
-      (λ e. inr (
-        stays ∙ e.0,
-        ap (filter (λ x. key x == k)) (take_more xs i d lt)
-            ∙ filter_push (λ x. key x == k) (take i xs) (get_or xs i d) (ne_eqb (key (get_or xs i d)) k (λ this. other (sym this ∙ is)))
-            ∙ e.1,
-      ))
-      (h k))
-      (cases_eq k q)
-
-  pub known_all : (vs : List ℕ) (xs : List X) (i k : ℕ) → length xs ≤ i → (filter (λ x. key x == k) xs ≡ [] → value k ≡ 0) → Known vs (take i xs) k → get_or vs k 0 ≡ value k
+  pub known_all : (vs : List (Option ℕ)) (xs : List X) (i k : ℕ) → length xs ≤ i → (filter (λ x. key x == k) xs ≡ [] → value k ≡ 0) → Known vs (take i xs) k → unwrap_or (get_or vs k None) 0 ≡ value k
   known_all vs xs i k all none h =
-      ⊎_elim (λ e. e) (λ e. e.0 ∙ sym (none (sym (ap (filter (λ x. key x == k)) (take_all i xs all)) ∙ e.1))) h
+      value_or_nought (get_or vs k None) (filter (λ x. key x == k) (take i xs) ≡ []) (value k)
+      (λ e. none (sym (ap (filter (λ x. key x == k)) (take_all i xs all)) ∙ e)) h
 
 -- a sum of which one term alone may be above 0
 module _ (f : ℕ → ℕ) (a : ℕ) (none : (k : ℕ) → (k ≡ a → ⊥) → f k ≡ 0) where
@@ -94,7 +89,7 @@ module _ (f : ℕ → ℕ) (a : ℕ) (none : (k : ℕ) → (k ≡ a → ⊥) →
   sum_before zero le = refl
   sum_before (suc n) le = omega (arith, sum_before n (omega arith), none n (λ e. omega arith))
 
-  pub sum_one : (n : ℕ) → a < n → sum_below f n ≡ f a
+  sum_one : (n : ℕ) → a < n → sum_below f n ≡ f a
   unfolding sum_below
   sum_one zero lt = absurd (omega arith)
   sum_one (suc n) lt =
@@ -111,7 +106,7 @@ key_same ByResidual d f t h = residual_same d f t h
 key_same ByHalfYear d f t h = ap (λ r. min (r / 6) 19) (residual_same d f t h)
 key_same ByBenchmark d f t h = eqb-true t.benchmark f.benchmark (and_parts (t.benchmark == f.benchmark) (residual_of d t == residual_of d f) h).0
 
-pub key_below : (g : Grouping) (d : Day) (t : TradeRow) → t.benchmark ≤ 3 → key_of g d t < groups_of g
+key_below : (g : Grouping) (d : Day) (t : TradeRow) → t.benchmark ≤ 3 → key_of g d t < groups_of g
 key_below ByResidual d t low = omega arith
 key_below ByHalfYear d t low = omega arith
 key_below ByBenchmark d t low = omega arith
@@ -121,15 +116,11 @@ groups_within ByResidual = omega arith
 groups_within ByHalfYear = omega arith
 groups_within ByBenchmark = omega arith
 
-pub keeps_low : (t : TradeRow) → trade_keeps t ≡ true → t.benchmark ≤ 3
+keeps_low : (t : TradeRow) → trade_keeps t ≡ true → t.benchmark ≤ 3
 keeps_low t h = leb-true t.benchmark 3 (and_parts (nat_le t.benchmark 3) _ h).0
 
-pub first_low : (ts : List TradeRow) → trades_stand ts ≡ true → (get_or ts 0 no_trade).benchmark ≤ 3
-first_low ts h =
-    ⊎_elim
-    (λ some. keeps_low (get_or ts 0 no_trade) (list_all_at trade_keeps ts 0 no_trade some (and_parts (nat_le (length ts) 64) (list_all trade_keeps ts) h).1))
-    (λ none. let e = ap (λ (t : TradeRow). t.benchmark) (get_or_past ts 0 no_trade none) in omega arith)
-    (cases_lt 0 (length ts))
+first_low : (ts : List TradeRow) → trades_stand ts ≡ true → 0 < length ts → (get_or ts 0 no_trade).benchmark ≤ 3
+first_low ts h some = keeps_low (get_or ts 0 no_trade) (list_all_at trade_keeps ts 0 no_trade some (and_parts (nat_le (length ts) 64) (list_all trade_keeps ts) h).1)
 
 module _ (m : Meaning) (d : Day) (g : Grouping) (f : TradeRow) (ts : List TradeRow) (same : list_all (alike d f) ts ≡ true) where
   keys : All (λ t. key_of g d t ≡ key_of g d f) ts
@@ -143,20 +134,18 @@ module _ (m : Meaning) (d : Day) (g : Grouping) (f : TradeRow) (ts : List TradeR
   unfolding group_trades
   has_none k other = filter_none (λ t. key_of g d t == k) ts (All-weaker (λ t. key_of g d t ≡ key_of g d f) (λ t. (key_of g d t == k) ≡ false) (λ t e. ne_eqb (key_of g d t) k (λ same. other (sym same ∙ e))) ts keys)
 
-  pub lone_grouped : f.benchmark ≤ 3 → var_of m d ts ≡ grouped_risk m d g ts
+  lone_grouped : f.benchmark ≤ 3 → var_of m d ts ≡ grouped_risk m d g ts
   unfolding grouped_risk
   lone_grouped low =
       sym (sum_one (λ k. var_of m d (group_trades g d k ts)) (key_of g d f) (λ k other. ap (var_of m d) (has_none k other) ∙ var_none m d) (groups_of g) (key_below g d f low)
       ∙ ap (var_of m d) has_all)
 
+pub lone_of : (m : Meaning) (d : Day) (g : Grouping) (f : TradeRow) (ts : List TradeRow) → trades_stand ts ≡ true → LoneTrade d f ts → var_of m d ts ≡ grouped_risk m d g ts
+lone_of m d g f ts h lone = lone_grouped m d g f ts lone.2 (let low = first_low ts h lone.0 in let e = ap (λ (t : TradeRow). t.benchmark) lone.1 in omega arith)
+
 pub group_none : (m : Meaning) (d : Day) (g : Grouping) (ts : List TradeRow) (k : ℕ) → filter (λ t. key_of g d t == k) ts ≡ [] → var_of m d (group_trades g d k ts) ≡ 0
 unfolding group_trades
 group_none m d g ts k none = ap (var_of m d) none ∙ var_none m d
-
-pub key_few : (g : Grouping) (d : Day) (ts : List TradeRow) (i : ℕ) (e : TradeRow) → trades_stand ts ≡ true → i < length ts → key_of g d (get_or ts i e) < 121
-key_few g d ts i e h lt =
-    let low = keeps_low (get_or ts i e) (list_all_at trade_keeps ts i e lt (and_parts (nat_le (length ts) 64) (list_all trade_keeps ts) h).1) in
-    omega (arith, groups_within g, key_below g d (get_or ts i e) low)
 
 -- residuals that are the same are in one group, but for benchmarks
 residual_key : (g : Grouping) (d : Day) (t u : TradeRow) → g ≢ ByBenchmark → residual_of d t ≡ residual_of d u → key_of g d t ≡ key_of g d u
@@ -165,30 +154,18 @@ residual_key ByHalfYear d t u half e = ap (λ r. min (r / 6) 19) e
 residual_key ByBenchmark d t u half e = absurd (half refl)
 
 -- a group whose trades are all of one residual is the group of that residual
-module _ (d : Day) (g : Grouping) (k : ℕ) (ts : List TradeRow) (half : g ≢ ByBenchmark) where
-  abbrev first : TradeRow
-  first = get_or (group_trades g d k ts) 0 no_trade
-
-  pub lone_group : 0 < length (group_trades g d k ts) → list_all (alike d first) (group_trades g d k ts) ≡ true → group_trades ByResidual d (residual_of d first) ts ≡ group_trades g d k ts
+module _ (m : Meaning) (d : Day) (g : Grouping) (k : ℕ) (ts : List TradeRow) (half : g ≢ ByBenchmark) where
+  lone_group : (f : TradeRow) → LoneTrade d f (group_trades g d k ts) → group_trades ByResidual d (residual_of d f) ts ≡ group_trades g d k ts
   unfolding group_trades
-  lone_group some same =
+  lone_group f lone =
       let p : TradeRow → Bool = λ t. key_of g d t == k in
-      let here : key_of g d first ≡ k = eqb-true (key_of g d first) k (All-get_or (λ t. p t ≡ true) (filter p ts) 0 no_trade some (filter_passes p ts)) in
-      filter_finer p (λ t. residual_of d t == residual_of d first)
-      (λ t e. eq-eqb (key_of g d t) k (residual_key g d t first half (eqb-true (residual_of d t) (residual_of d first) e) ∙ here))
+      let here : key_of g d f ≡ k = ap (key_of g d) lone.1 ∙ eqb-true (key_of g d (get_or (filter p ts) 0 no_trade)) k (All-get_or (λ t. p t ≡ true) (filter p ts) 0 no_trade lone.0 (filter_passes p ts)) in
+      filter_finer p (λ t. residual_of d t == residual_of d f)
+      (λ t e. eq-eqb (key_of g d t) k (residual_key g d t f half (eqb-true (residual_of d t) (residual_of d f) e) ∙ here))
       ts
-      (all_from (alike d first) (λ t. (residual_of d t == residual_of d first) ≡ true) (λ t h. (and_parts (t.benchmark == first.benchmark) (residual_of d t == residual_of d first) h).1) (filter p ts) same)
+      (all_from (alike d f) (λ t. (residual_of d t == residual_of d f) ≡ true) (λ t h. (and_parts (t.benchmark == f.benchmark) (residual_of d t == residual_of d f) h).1) (filter p ts) lone.2)
 
-  pub lone_var : (m : Meaning) (vs : List ℕ) (v : ℕ) (h : List TradeRow) → h ≡ group_trades g d k ts
-      → ((q : ℕ) → q < 121 → (get_or vs q 0 ≡ 0) ⊎ (get_or vs q 0 ≡ var_of m d (group_trades ByResidual d q ts)))
-      → (v ≡ 0) ⊎ ((0 < length h) × (list_all (alike d (get_or h 0 no_trade)) h ≡ true) × (v ≡ get_or vs (residual_of d (get_or h 0 no_trade)) 0))
-      → (v ≡ 0 → ⊥) → v ≡ var_of m d (group_trades g d k ts)
-  lone_var m vs v h is known kept some =
-      let P : List TradeRow → Type 0 = λ l. (v ≡ 0) ⊎ ((0 < length l) × (list_all (alike d (get_or l 0 no_trade)) l ≡ true) × (v ≡ get_or vs (residual_of d (get_or l 0 no_trade)) 0)) in
-      ⊎_elim
-      (λ nought. absurd (some nought))
-      (λ one. ⊎_elim
-      (λ nought. absurd (some (one.2 ∙ nought)))
-      (λ e. one.2 ∙ e ∙ ap (var_of m d) (lone_group one.0 one.1))
-      (known (residual_of d first) (omega arith)))
-      (subst P is kept)
+  pub known_lone : (vs : List (Option ℕ)) (h : List TradeRow) → h ≡ group_trades g d k ts → KnownRisks m d ByResidual ts vs → KnownLone m d h vs
+  known_lone vs h is known f lone =
+      let here : group_trades ByResidual d (residual_of d f) ts ≡ h = lone_group f (subst (LoneTrade d f) is lone) ∙ sym is in
+      subst (λ r. IfSome (get_or vs (residual_of d f) None) (λ v. v ≡ r)) (ap (var_of m d) here) (known (residual_of d f))

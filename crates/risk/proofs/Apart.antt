@@ -1,5 +1,5 @@
 -- The groups of one grouping are apart, so that together they have no more trades than there are.
-use Rattle.std.proofs.Common.{◌≡◌, ℕ, zero, suc, ◌+◌, ◌*◌, ◌≤◌, true, List, [], ◌∷◌, length, pos, count_by, filter, sym, refl, ap, ◌∙◌, arith, rules}
+use Rattle.std.proofs.Common.{◌≡◌, ℕ, zero, suc, ◌+◌, ◌*◌, ◌≤◌, true, List, [], ◌∷◌, length, pos, count_by, filter, sym, refl, ap, ◌∙◌, subst, arith, rules}
 use Rattle.std.specs.Prelude.{◌==◌, nat_lt, nat_le, if◌then◌else◌}
 use Rattle.std.proofs.lemmas.Bool.Decides.{nat_tests}
 use Rattle.std.proofs.lemmas.Bool.{le-ltb, le-leb, leb-true, and_parts, and_from}
@@ -17,9 +17,10 @@ use Rattle.risk.specs.declared.grouping.Grouping.TheVariants.{ByResidual, ByHalf
 use Rattle.risk.specs.Groups.{TradeFits, Standing, key_of, groups_of, in_group, group_trades}
 use Rattle.tables.specs.Numbers.{sum_below, rounded_up}
 use Rattle.tables.proofs.Numbers.{sum_le, sum_nil}
-use Rattle.risk.specs.Losses.{var_of}
+use Rattle.risk.specs.declared.figures.RiskFigures.{RiskFigures}
+use Rattle.risk.specs.Losses.{var_of, AtRisk}
 use Rattle.risk.specs.Initial.{grouped_risk, stepped_up, minimum_of, risk_from, risk_of}
-use Rattle.risk.proofs.Risks.{var_most, var_none, var_still}
+use Rattle.risk.proofs.Risks.{var_most, var_none, var_still, at_risk}
 
 one_more : (k n : ℕ) → (if nat_lt k (suc n) then 1 else 0) ≡ (if nat_lt k n then 1 else 0) + (if k == n then 1 else 0)
 one_more k n = grind (arith, nat_tests)
@@ -39,10 +40,10 @@ module _ {X : Type 0} (key : X → ℕ) where
   apart zero xs = sym (count_nought xs)
   apart (suc n) xs = omega (arith, apart n xs, count_upto n xs, length-filter (λ x. key x == n) xs)
 
-  pub apart_le : (n : ℕ) (xs : List X) → sum_below (λ k. length (filter (λ x. key x == k) xs)) n ≤ length xs
+  apart_le : (n : ℕ) (xs : List X) → sum_below (λ k. length (filter (λ x. key x == k) xs)) n ≤ length xs
   apart_le n xs = omega (arith, apart n xs, count_by-le-length (λ x. nat_lt (key x) n) xs)
 
-pub group_standing : (l : Grouping) (d : Day) (k : ℕ) (ts : List TradeRow) → Standing ts → Standing (group_trades l d k ts)
+group_standing : (l : Grouping) (d : Day) (k : ℕ) (ts : List TradeRow) → Standing ts → Standing (group_trades l d k ts)
 unfolding group_trades
 group_standing l d k ts h = record {
   few = omega (arith, h.few, length-filter (in_group l d k) ts, count_by-le-length (in_group l d k) ts);
@@ -75,6 +76,14 @@ standing ts h =
     let both = and_parts (nat_le (length ts) 64) (list_all trade_keeps ts) h in
     record { few = leb-true (length ts) 64 both.0; each = all_from trade_keeps TradeFits fits ts both.1 }
 
+-- what the code works out as the value at risk is what the rule's words say, and within bounds
+module _ (m : Meaning) (d : Day) (ts : List TradeRow) (r : ℕ) (law : Lawful m) (is : r ≡ var_of m d ts) where
+  pub var_words : AtRisk m d ts r
+  var_words = subst (AtRisk m d ts) (sym is) (at_risk m d ts law)
+
+  pub var_bound : trades_stand ts ≡ true → r ≤ 2000000000000 * length ts
+  var_bound h = omega (arith, is, var_most m d ts law (standing ts h).each)
+
 pub group_stands : (g : Grouping) (d : Day) (k : ℕ) (ts : List TradeRow) → trades_stand ts ≡ true → trades_stand (group_trades g d k ts) ≡ true
 unfolding group_trades
 group_stands g d k ts h =
@@ -96,15 +105,22 @@ nought_stepped s =
     let none : 0 * s ≡ 0 = omega arith in
     sym (ap (λ n. 0 + rounded_up n 100) none)
 
-pub risk_none : (m : Meaning) (d : Day) (s : ℕ) → risk_from s 0 0 0 0 ≡ risk_of m d s []
+risk_none : (m : Meaning) (d : Day) (s : ℕ) → risk_from s 0 0 0 0 ≡ risk_of m d s []
 unfolding risk_of minimum_of
 risk_none m d s =
     ap (λ x. risk_from s x 0 0 0) (sym (grouped_none m d ByResidual))
     ∙ ap (λ z. risk_from s (grouped_risk m d ByResidual []) z 0 0) (sym (grouped_none m d ByHalfYear))
     ∙ ap (λ y. risk_from s (grouped_risk m d ByResidual []) (grouped_risk m d ByHalfYear []) y 0) (sym (var_none m d))
 
-pub risk_nought : (m : Meaning) (d : Day) (s : ℕ) (ts : List TradeRow) → ts ≡ [] → record { residuals = 0; halfyears = 0; whole = 0; spread = 0; minimum = 0; initial = 0 } ≡ risk_of m d s ts
-risk_nought m d s ts none =
-    ap (λ n. record { residuals = 0; halfyears = 0; whole = 0; spread = 0; minimum = 0; initial = n }) (nought_stepped s)
+abbrev figures : ℕ → ℕ → ℕ → ℕ → ℕ → ℕ → RiskFigures
+figures x z y spread minimum initial = record { residuals = x; halfyears = z; whole = y; spread = spread; minimum = minimum; initial = initial }
+
+all_nought : (x z y s k i : ℕ) → (x ≡ 0) × ((z ≡ 0) × ((y ≡ 0) × ((s ≡ 0) × ((k ≡ 0) × (i ≡ 0))))) → figures x z y s k i ≡ figures 0 0 0 0 0 0
+all_nought x z y s k i h = cc
+
+pub risk_nought : (m : Meaning) (d : Day) (s : ℕ) (ts : List TradeRow) → ts ≡ [] → (f : RiskFigures) → (f.residuals ≡ 0) × ((f.halfyears ≡ 0) × ((f.whole ≡ 0) × ((f.spread ≡ 0) × ((f.minimum ≡ 0) × (f.initial ≡ 0))))) → f ≡ risk_of m d s ts
+risk_nought m d s ts none f h =
+    all_nought f.residuals f.halfyears f.whole f.spread f.minimum f.initial h
+    ∙ ap (figures 0 0 0 0 0) (nought_stepped s)
     ∙ risk_none m d s
     ∙ ap (risk_of m d s) (sym none)

@@ -20,7 +20,7 @@ use Rattle.market.specs.Days.{residual_of}
 use Rattle.risk.specs.Groups.{alike}
 use Rattle.risk.specs.Signs.{signed_sum, negated_for, gain_of}
 use Rattle.risk.specs.Losses.{leg_of, loss_of, losses_of, tail_size, tail_loss, var_of}
-use Rattle.risk.proofs.Adds.{room_is}
+use Rattle.risk.proofs.Adds.{losses_are}
 use Rattle.risk.proofs.Legs.{signed_times}
 use Rattle.risk.proofs.Risks.{tail_from, var_from, var_nought}
 
@@ -52,7 +52,7 @@ add_down a c (suc n) =
     ∙ times_next a (negsuc n) (neg_ℤ c) c (add_down a c n)
     ∙ ap (λ z. a *ℤ c +ℤ z) (sym (pred_ℤ-*ℤ (negsuc n) c))
 
-pub times_add : (a b c : ℤ) → (a +ℤ b) *ℤ c ≡ a *ℤ c +ℤ b *ℤ c
+times_add : (a b c : ℤ) → (a +ℤ b) *ℤ c ≡ a *ℤ c +ℤ b *ℤ c
 times_add a (pos n) c = add_up a c n
 times_add a (negsuc n) c = add_down a c n
 
@@ -70,7 +70,7 @@ product_suc : (n k : ℕ) → suc n * suc k ≡ suc (k + n * suc k)
 product_suc n k = grind arith
 
 -- a factor above 0 keeps the order
-pub times_keeps : (n : ℕ) (x y : ℤ) → reaches_loss (pos (suc n) *ℤ x) (pos (suc n) *ℤ y) ≡ reaches_loss x y
+times_keeps : (n : ℕ) (x y : ℤ) → reaches_loss (pos (suc n) *ℤ x) (pos (suc n) *ℤ y) ≡ reaches_loss x y
 times_keeps n (pos a) (pos b) = leb_times n b a
 times_keeps n (pos a) (negsuc b) = ap (λ k. int_le (neg_ℤ (pos k)) (pos (suc n * a))) (product_suc n b)
 times_keeps n (negsuc a) (pos b) = ap (λ k. int_le (pos (suc n * b)) (neg_ℤ (pos k))) (product_suc n a)
@@ -89,7 +89,7 @@ module _ {X : Type 0} (f w : X → ℤ) (c : ℤ) where
       let here : a *ℤ c +ℤ f x ≡ (a +ℤ w x) *ℤ c = ap (λ z. a *ℤ c +ℤ z) (All-head (λ y. f y ≡ w y *ℤ c) x xs h) ∙ sym (times_add a (w x) c) in
       ap (λ z. fold (λ b y. b +ℤ f y) z xs) here ∙ net_from (a +ℤ w x) xs (All-tail (λ y. f y ≡ w y *ℤ c) x xs h)
 
-  pub net_sum : (xs : List X) → All (λ x. f x ≡ w x *ℤ c) xs → fold (λ b x. b +ℤ f x) (pos 0) xs ≡ fold (λ b x. b +ℤ w x) (pos 0) xs *ℤ c
+  net_sum : (xs : List X) → All (λ x. f x ≡ w x *ℤ c) xs → fold (λ b x. b +ℤ f x) (pos 0) xs ≡ fold (λ b x. b +ℤ w x) (pos 0) xs *ℤ c
   net_sum xs h = ap (λ z. fold (λ b x. b +ℤ f x) z xs) (sym (zero-*ℤ c)) ∙ net_from (pos 0) xs h
 
 gain_times : (n : ℕ) (z : ℤ) → gain_of z * n ≡ gain_of (pos n *ℤ z)
@@ -108,7 +108,7 @@ bits_some (pos (suc n)) ne = omega arith
 bits_some (negsuc n) ne = omega arith
 
 -- what one trade adds to the net of its group
-abbrev pub flow_of : TradeRow → ℤ
+abbrev flow_of : TradeRow → ℤ
 flow_of t = negated_for Pay (side_of t.side) (pos t.notional *ℤ pos 1)
 
 module _ (m : Meaning) (d : Day) (f : TradeRow) (ts : List TradeRow) (same : list_all (alike d f) ts ≡ true) where
@@ -133,34 +133,36 @@ module _ (m : Meaning) (d : Day) (f : TradeRow) (ts : List TradeRow) (same : lis
     net_nought nought = sym (var_nought m d ts (λ j. let e = ap nat_abs (loss_is j ∙ ap (λ z. z *ℤ change j) nought ∙ zero-*ℤ (change j)) in omega arith))
 
     -- cs are the changes, negated where w is below 0, and x is the lowest of their tail
-    module _ (n : ℕ) (cs : List ℤ) (k : ℕ) (x : ℤ) (len : length cs ≡ m.scenarios) (each : (j : ℕ) → j < m.scenarios → pos (suc n) *ℤ get_or cs j (pos 0) ≡ w *ℤ change j) (size : k ≡ tail_size m.scenarios) (read : x ≡ get_or (ranked reaches_loss cs) (k - 1) (pos 0)) where
+    module _ (n : ℕ) (cs : List ℤ) (x : ℤ) (len : length cs ≡ m.scenarios) (each : (j : ℕ) → j < m.scenarios → pos (suc n) *ℤ get_or cs j (pos 0) ≡ w *ℤ change j) (read : x ≡ get_or (ranked reaches_loss cs) (tail_size (length cs) - 1) (pos 0)) where
       abbrev times : ℤ → ℤ
       times z = pos (suc n) *ℤ z
 
       times_losses : map times cs ≡ losses_of m d ts
       times_losses =
-          room_is m d ts (map times cs) (length-map cs times ∙ len)
+          losses_are m d ts (map times cs) (length-map cs times ∙ len)
           (λ j h. get_or-map times cs j (pos 0) (pos 0) (omega arith) ∙ each j h ∙ sym (loss_is j))
 
       times_tail : times x ≡ tail_loss m d ts
       times_tail =
-          tail_from m d ts (map times cs) k (times x) times_losses size
+          let k = tail_size (length cs) - 1 in
+          tail_from m d ts (map times cs) (times x) times_losses
           (ap times read
-          ∙ sym (get_or_map times (ranked reaches_loss cs) (k - 1) (pos 0))
-          ∙ ap (λ z. get_or (map times (ranked reaches_loss cs)) (k - 1) z) (*ℤ-zero (pos (suc n)))
-          ∙ sym (ap (λ zs. get_or zs (k - 1) (pos 0)) (ranked_map reaches_loss reaches_loss times (times_keeps n) cs)))
+          ∙ sym (get_or_map times (ranked reaches_loss cs) k (pos 0))
+          ∙ ap (λ z. get_or (map times (ranked reaches_loss cs)) k z) (*ℤ-zero (pos (suc n)))
+          ∙ sym (ap (λ zs. get_or zs k (pos 0)) (ranked_map reaches_loss reaches_loss times (times_keeps n) cs))
+          ∙ sym (ap (λ l. get_or (ranked reaches_loss (map times cs)) (tail_size l - 1) (pos 0)) (length-map cs times)))
 
       net_var : (y : ℤ) (g : ℕ) → y ≡ x → g ≡ gain_of y → g * suc n ≡ var_of m d ts
       net_var y g passed got =
           var_from m d ts (times x) (times x) (g * suc n) refl times_tail (ap (λ u. u * suc n) (got ∙ ap gain_of passed) ∙ gain_times (suc n) x)
 
-    sized : (u : ℕ) (cs : List ℤ) (k : ℕ) (x y : ℤ) (g : ℕ) → 0 < u → length cs ≡ m.scenarios → ((j : ℕ) → j < m.scenarios → pos u *ℤ get_or cs j (pos 0) ≡ w *ℤ change j) → k ≡ tail_size m.scenarios → x ≡ get_or (ranked reaches_loss cs) (k - 1) (pos 0) → y ≡ x → g ≡ gain_of y → g * u ≡ var_of m d ts
-    sized zero cs k x y g some len each size read passed got = absurd (omega arith)
-    sized (suc n) cs k x y g some len each size read passed got = net_var n cs k x len each size read y g passed got
+    sized : (u : ℕ) (cs : List ℤ) (x y : ℤ) (g : ℕ) → 0 < u → length cs ≡ m.scenarios → ((j : ℕ) → j < m.scenarios → pos u *ℤ get_or cs j (pos 0) ≡ w *ℤ change j) → x ≡ get_or (ranked reaches_loss cs) (tail_size (length cs) - 1) (pos 0) → y ≡ x → g ≡ gain_of y → g * u ≡ var_of m d ts
+    sized zero cs x y g some len each read passed got = absurd (omega arith)
+    sized (suc n) cs x y g some len each read passed got = net_var n cs x len each read y g passed got
 
     -- v is the net as it was passed, and u its size
-    pub net_var_of : (v : ℤ) (u : ℕ) (cs : List ℤ) (l k : ℕ) (x y : ℤ) (g : ℕ) → v ≡ w → (of_z w64 w ≡ 0 → ⊥) → u ≡ nat_abs v → l ≡ m.scenarios → length cs ≡ l → ((j : ℕ) → j < l → pos (nat_abs v) *ℤ get_or cs j (pos 0) ≡ v *ℤ change j) → k ≡ tail_size m.scenarios → x ≡ get_or (ranked reaches_loss cs) (k - 1) (pos 0) → y ≡ x → g ≡ gain_of y → g * u ≡ var_of m d ts
-    net_var_of v u cs l k x y g same-net ne abs count len each size read passed got =
-        sized u cs k x y g (omega (arith, bits_some w ne, ap nat_abs same-net)) (len ∙ count)
-        (λ j h. ap (λ i. pos i *ℤ get_or cs j (pos 0)) abs ∙ each j (omega arith) ∙ ap (λ z. z *ℤ change j) same-net)
-        size read passed got
+    pub net_var_of : (v : ℤ) (u : ℕ) (cs : List ℤ) (x y : ℤ) (g : ℕ) → v ≡ w → (of_z w64 w ≡ 0 → ⊥) → u ≡ nat_abs v → length cs ≡ m.scenarios → ((j : ℕ) → j < m.scenarios → pos (nat_abs v) *ℤ get_or cs j (pos 0) ≡ v *ℤ change j) → x ≡ get_or (ranked reaches_loss cs) (tail_size (length cs) - 1) (pos 0) → y ≡ x → g ≡ gain_of y → g * u ≡ var_of m d ts
+    net_var_of v u cs x y g same-net ne abs len each read passed got =
+        sized u cs x y g (omega (arith, bits_some w ne, ap nat_abs same-net)) len
+        (λ j h. ap (λ i. pos i *ℤ get_or cs j (pos 0)) abs ∙ each j h ∙ ap (λ z. z *ℤ change j) same-net)
+        read passed got

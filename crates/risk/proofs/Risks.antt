@@ -1,5 +1,5 @@
 -- The losses over the scenarios, their tail and its size.
-use Rattle.std.proofs.Common.{◌≡◌, ℕ, ◌-◌, ◌*◌, ◌<◌, ◌≤◌, true, List, [], length, get_or, ℤ, Some, None, Option, MatchOption, unwrap_or, pos, ◌*ℤ◌, nat_abs, sym, refl, ap, ◌∙◌, subst, ⊎_elim, mul-zero, arith}
+use Rattle.std.proofs.Common.{◌≡◌, ℕ, ◌-◌, ◌*◌, ◌<◌, ◌≤◌, Bool, true, List, [], length, get_or, ℤ, Some, None, Option, MatchOption, unwrap_or, pos, ◌*ℤ◌, nat_abs, sym, refl, ap, ◌∙◌, subst, ⊎_elim, mul-zero, arith}
 use Rattle.std.specs.List.{ContainsAt, All}
 use Rattle.std.proofs.lemmas.Int.{ints}
 use Rattle.std.proofs.lemmas.Bool.{cases_lt}
@@ -23,25 +23,25 @@ use Rattle.risk.specs.Signs.{gain_of, negated_for}
 use Rattle.risk.specs.Losses.{leg_of, loss_of, losses_of, tail_size, tail_loss, var_of, AtRisk}
 use Rattle.risk.proofs.Signs.{sum_most, gain_le}
 
--- the k-th highest, or 0 where there is none
-pub kth_or_nil : (xs : List ℤ) (k : ℕ) (o : Option ℤ) → 1 ≤ k → MatchOption o (Short k xs) (λ l. (d : ℤ) → l ≡ get_or (ranked reaches_loss xs) (k - 1) d) → unwrap_or o (pos 0) ≡ get_or (ranked reaches_loss xs) (k - 1) (pos 0)
-kth_or_nil xs k None some short =
-    sym (get_or_past (ranked reaches_loss xs) (k - 1) (pos 0) (⊎_elim (λ none. omega arith) (λ few. omega (arith, length_ranked reaches_loss xs)) short))
-kth_or_nil xs k (Some l) some is = is (pos 0)
+-- the k-th highest, or what is said for none
+pub kth_or : {X : Type 0} (ge : X → X → Bool) (xs : List X) (k : ℕ) (nil : X) (o : Option X) → 1 ≤ k → MatchOption o (Short k xs) (λ l. (d : X) → l ≡ get_or (ranked ge xs) (k - 1) d) → unwrap_or o nil ≡ get_or (ranked ge xs) (k - 1) nil
+kth_or ge xs k nil None some short =
+    sym (get_or_past (ranked ge xs) (k - 1) nil (⊎_elim (λ none. omega arith) (λ few. omega (arith, length_ranked ge xs)) short))
+kth_or ge xs k nil (Some l) some is = is nil
 
 module _ (m : Meaning) (d : Day) (ts : List TradeRow) where
-  pub length_losses : length (losses_of m d ts) ≡ m.scenarios
+  length_losses : length (losses_of m d ts) ≡ m.scenarios
   unfolding losses_of
   length_losses = length-map-range_with_len (λ j. loss_of m d j ts) 0 m.scenarios
 
-  pub getD_losses : (j : ℕ) (e : ℤ) → j < m.scenarios → get_or (losses_of m d ts) j e ≡ loss_of m d j ts
+  get_or_losses : (j : ℕ) (e : ℤ) → j < m.scenarios → get_or (losses_of m d ts) j e ≡ loss_of m d j ts
   unfolding losses_of
-  getD_losses j e h = get_or-map-range_with_len (λ i. loss_of m d i ts) 0 m.scenarios j j e h (omega arith)
+  get_or_losses j e h = get_or-map-range_with_len (λ i. loss_of m d i ts) 0 m.scenarios j j e h (omega arith)
 
   -- the lowest of the tail, out of losses that a loop filled
-  pub tail_from : (xs : List ℤ) (n : ℕ) (x : ℤ) → xs ≡ losses_of m d ts → n ≡ tail_size m.scenarios → x ≡ get_or (ranked reaches_loss xs) (n - 1) (pos 0) → x ≡ tail_loss m d ts
+  pub tail_from : (xs : List ℤ) (x : ℤ) → xs ≡ losses_of m d ts → x ≡ get_or (ranked reaches_loss xs) (tail_size (length xs) - 1) (pos 0) → x ≡ tail_loss m d ts
   unfolding tail_loss
-  tail_from xs n x filled size is = cc
+  tail_from xs x filled is = let n = length_losses in cc
 
   -- the value at risk is what its words say
   pub at_risk : Lawful m → AtRisk m d ts (var_of m d ts)
@@ -66,7 +66,7 @@ module _ (m : Meaning) (d : Day) (ts : List TradeRow) where
       ⊎_elim (λ lt. All-get_or P rs k (pos 0) lt all) (λ past. subst P (sym (get_or_past rs k (pos 0) past)) nil) (cases_lt k (length rs))
 
   each_loss : (P : ℤ → Type 0) → ((j : ℕ) → P (loss_of m d j ts)) → All P (losses_of m d ts)
-  each_loss P h = All-from_get_or P (losses_of m d ts) (pos 0) (λ j lt. subst P (sym (getD_losses j (pos 0) (omega (arith, length_losses)))) (h j))
+  each_loss P h = All-from_get_or P (losses_of m d ts) (pos 0) (λ j lt. subst P (sym (get_or_losses j (pos 0) (omega (arith, length_losses)))) (h j))
 
 side_size : (s : Side) (z : ℤ) → nat_abs (negated_for Pay s z) ≡ nat_abs z
 side_size Pay z = size_neg z

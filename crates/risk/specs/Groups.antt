@@ -3,8 +3,10 @@
 -- key_of: the group of a trade, by residual, by half-year bucket or by benchmark. groups_of: how many groups there are.
 -- in_group, group_trades: the trades of one group, in their order.
 -- alike, all_alike: trades of one benchmark and residual, which the code nets; no rule goes by them.
-use Rattle.std.specs.Prelude.{ℕ, ◌/◌, ◌≤◌, min, Bool, List, All, length, filter, ◌==◌, ◌&&◌}
+-- LoneTrade: the first of trades that are all alike.
+use Rattle.std.specs.Prelude.{◌≡◌, ℕ, ◌/◌, ◌<◌, ◌≤◌, min, Bool, true, List, All, length, filter, slice_index_or, ◌==◌, ◌&&◌}
 use Rattle.std.specs.List.{list_all}
+use Rattle.tables.specs.Limits.{no_trade}
 use Rattle.tables.specs.declared.row.TradeRow.{TradeRow}
 use Rattle.market.specs.declared.day.Day.{Day}
 use Rattle.market.specs.Days.{residual_of}
@@ -40,3 +42,7 @@ alike d f t = (t.benchmark == f.benchmark) && (residual_of d t == residual_of d 
 
 abbrev pub all_alike : Day → TradeRow → List TradeRow → Bool
 all_alike d f ts = list_all (alike d f) ts
+
+-- f is the first of the trades, and all of them are alike
+abbrev pub LoneTrade : Day → TradeRow → List TradeRow → Type 0
+LoneTrade d f ts = (0 < length ts) × (f ≡ slice_index_or ts 0 no_trade) × (all_alike d f ts ≡ true)

@@ -1,8 +1,10 @@
 -- The initial margin of the trades of one benchmark.
+-- KnownRisks, KnownLone, GroupRisks: what an array of values at risk holds of the groups; the code keeps it, and no rule goes by it.
 -- grouped_risk: the values at risk of the groups, added up (X by residual, Z by half-year bucket).
 -- spread_of: the spread charge. band_rate, weight_of, minimum_of: the minimum margin.
--- stepped_up: with the step-up. initial_of: the initial margin. risk_of: all of these as one record.
-use Rattle.std.specs.Prelude.{ℕ, ◌+◌, ◌-◌, ◌*◌, max, List, ℤ, pos, ◌*ℤ◌, nat_le, unsigned_abs, if◌then◌else◌}
+-- stepped_up: with the step-up. initial_of: the initial margin.
+-- risk_from: all of these as one record, from X, Z, Y and the minimum margin. risk_of: the same of trades.
+use Rattle.std.specs.Prelude.{◌≡◌, ℕ, ◌+◌, ◌-◌, ◌*◌, max, List, Option, None, IfSome, unwrap_or, ℤ, pos, ◌*ℤ◌, nat_le, slice_index_or, unsigned_abs, if◌then◌else◌}
 use Rattle.models.specs.Meaning.{Meaning}
 use Rattle.tables.specs.Codes.{side_of}
 use Rattle.tables.specs.Numbers.{sum_below, rounded_up}
@@ -13,9 +15,21 @@ use Rattle.market.specs.Days.{residual_of}
 use Rattle.risk.specs.declared.grouping.Grouping.{Grouping}
 use Rattle.risk.specs.declared.grouping.Grouping.TheVariants.{ByResidual, ByHalfYear}
 use Rattle.risk.specs.declared.figures.RiskFigures.{RiskFigures}
-use Rattle.risk.specs.Groups.{group_trades, groups_of}
+use Rattle.risk.specs.Groups.{group_trades, groups_of, LoneTrade}
 use Rattle.risk.specs.Signs.{signed_sum, negated_for}
 use Rattle.risk.specs.Losses.{var_of}
+
+-- what is known: of each group its value at risk, or nothing
+abbrev pub KnownRisks : Meaning → Day → Grouping → List TradeRow → List (Option ℕ) → Type 0
+KnownRisks m d g ts rs = (k : ℕ) → IfSome (slice_index_or rs k None) (λ v. v ≡ var_of m d (group_trades g d k ts))
+
+-- the same of the residual that all of the trades are of: it is the value at risk of these trades
+abbrev pub KnownLone : Meaning → Day → List TradeRow → List (Option ℕ) → Type 0
+KnownLone m d ts rs = (f : TradeRow) → LoneTrade d f ts → IfSome (slice_index_or rs (residual_of d f) None) (λ v. v ≡ var_of m d ts)
+
+-- of each group its value at risk; nothing of a group that has none
+abbrev pub GroupRisks : Meaning → Day → Grouping → List TradeRow → List (Option ℕ) → Type 0
+GroupRisks m d g ts rs = (k : ℕ) → unwrap_or (slice_index_or rs k None) 0 ≡ var_of m d (group_trades g d k ts)
 
 unfoldable pub grouped_risk : Meaning → Day → Grouping → List TradeRow → ℕ
 grouped_risk m d g ts = sum_below (λ k. var_of m d (group_trades g d k ts)) (groups_of g)

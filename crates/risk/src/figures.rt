@@ -6,7 +6,7 @@ use std::fmt;
 pub mod work;
 
 // X by residual, Z by half-year bucket, Y as a whole; the spread charge, the minimum and the initial margin.
-#[derive(Clone, Copy)]
+#[derive(Clone, Copy, Default)]
 pub struct RiskFigures {
     pub residuals: u64,
     pub halfyears: u64,

@@ -1,15 +1,14 @@
 // The value at risk of a group. Where all of its trades are of one benchmark and residual, their net times the changes are the losses;
 // other groups are added up trade by trade, where the inner loop runs over the scenarios.
-ghost use Rattle.std.specs.Prelude.{◌≡◌, ℕ, ◌*◌, ◌-◌, ◌<◌, ◌≤◌, true, length, pos, ◌+ℤ◌, ◌*ℤ◌, neg_ℤ, slice_index_or, unsigned_abs};
-ghost use Rattle.tail.specs.Tail.{ranked, reaches_loss};
+ghost use Rattle.std.specs.Prelude.{◌≡◌, ℕ, ◌*◌, ◌-◌, ◌<◌, ◌≤◌, true, IfSome, unwrap_or, length, pos, ◌+ℤ◌, ◌*ℤ◌, neg_ℤ, slice_index_or, unsigned_abs};
+ghost use Rattle.tail.specs.Tail.{ranked};
 ghost use Rattle.market.specs.Days.{residual_of};
 ghost use Rattle.risk.specs.Signs.{signed_sum, negated_for};
 ghost use Rattle.tables.specs.Codes.{side_of};
-ghost use Rattle.tables.specs.Limits.{no_trade};
 ghost use Rattle.tables.specs.declared.codes.Side.TheVariants.{Pay};
 ghost use Rattle.tables.specs.declared.row.TradeRow.{TradeRow};
-ghost use Rattle.risk.specs.Groups.{all_alike};
-ghost use Rattle.risk.specs.Losses.{leg_of, losses_of, var_of, AtRisk};
+ghost use Rattle.risk.specs.Groups.{all_alike, LoneTrade};
+ghost use Rattle.risk.specs.Losses.{leg_of, tail_size, var_of, AtRisk};
 
 use super::money::gain;
 use super::quotes::Quotes;
@@ -20,25 +19,37 @@ use tables::codes::Side;
 use tables::row::TradeRow;
 use tables::standing::StandingTrades;
 use tail::keeper::kth_highest;
+use tail::order::Ranked;
 
-// The lowest loss of the tail. `places` has one place for each loss of the tail.
-fn lowest_of_tail(losses: &[i64], places: &mut [i64]) -> i64
-    requires { 1 ≤ length places.old }
-    ensures { result ≡ slice_index_or (ranked reaches_loss losses.now) (length places.old - 1) (pos 0) }
-{
-    kth_highest(losses, places).unwrap_or(0)
+// Room for a trade's changes and a group's losses, one for each scenario: made once and lent to each step. Arrays, since the engine has
+// no heap: no model has more than 1,000 scenarios.
+#[derive(Drop)]
+pub(crate) struct Scratch {
+    changes: [i32; 1000],
+    losses: [i64; 1000],
 }
 
-// The same of changes.
-fn lowest_change(changes: &[i32], places: &mut [i32]) -> i32
-    requires { 1 ≤ length places.old }
-    ensures { result ≡ slice_index_or (ranked reaches_loss changes.now) (length places.old - 1) (pos 0) }
+impl Scratch {
+    pub fn new() -> Scratch {
+        Scratch {
+            changes: [0; 1000],
+            losses: [0; 1000],
+        }
+    }
+}
+
+// The lowest of the tail, if there are any entries. The tail of 1,000 takes ten places, in fixed memory as there is no heap. They are the
+// caller's: of a room `[T; 10]` made here, whose type is not known, the proof that it fits into memory did not close.
+fn lowest_of_tail<T: Ranked + Copy>(entries: &[T], places: &mut [T; 10]) -> Option<T>
+    requires { length entries.now ≤ 1000 }
+    ensures { (none : T) → unwrap_or result none ≡ slice_index_or (ranked T.reaches entries.now) (tail_size (length entries.now) - 1) none }
 {
-    kth_highest(changes, places).unwrap_or(0)
+    let size = (entries.len() / 100).max(1);
+    kth_highest(entries, &mut places[..size])
 }
 
 // Whether all trades of a group are of the benchmark and the residual of `first`.
-pub(crate) fn are_alike(day: Day, first: &TradeRow, group: StandingTrades) -> bool
+fn are_alike(day: Day, first: &TradeRow, group: StandingTrades) -> bool
     ensures { result ≡ all_alike day first.now group.entry.trades.now }
 {
     let residual = day.residual(first);
@@ -46,17 +57,15 @@ pub(crate) fn are_alike(day: Day, first: &TradeRow, group: StandingTrades) -> bo
         && day.residual(trade) == residual)
 }
 
-// Whether the trades of a group are all of one benchmark and residual: those of the first, if there is one.
-pub(crate) fn is_lone(day: Day, group: StandingTrades) -> bool
-    ensures { result ≡ all_alike day (slice_index_or group.entry.trades.now 0 no_trade) group.entry.trades.now }
+// The first trade of a group, where all of its trades are of one benchmark and residual.
+pub(crate) fn lone_trade<'a>(day: Day, group: StandingTrades<'a>) -> Option<&'a TradeRow>
+    ensures { IfSome result (λ first. LoneTrade day first.now group.entry.trades.now) }
 {
-    match group.rows().first() {
-        None => true,
-        Some(first) => are_alike(day, first, group),
-    }
+    let first = group.rows().first()?;
+    are_alike(day, first, group).then_some(first)
 }
 
-// The notionals of a group: receive-fixed plus, pay-fixed minus.
+// The notionals of a group: receive-fixed plus, pay-fixed minus. A `for`: nothing bounds the signed sum of a chain.
 fn net_of(group: StandingTrades) -> i64
     ensures value { result ≡ signed_sum (λ (t : TradeRow). negated_for Pay (side_of t.side) (pos t.notional *ℤ pos 1)) group.entry.trades.now }
     ensures bound { unsigned_abs result ≤ 64000000 }
@@ -80,102 +89,74 @@ fn negate(changes: &mut [i32])
 impl<'a, M: MarginModel> Quotes<'a, M> {
     // Adds what a trade loses in each scenario; `changes` is room for its changes. By the index of `enumerate`, since of a `zip` with
     // an `iter_mut` a proof does not learn what was written.
-    fn add_legs(&self, trade: Trade, changes: &mut [i32], room: &mut [i64])
-        requires space { length changes.old ≡ (M.meaning self.now.model.now).scenarios }
-        requires room { length room.old ≡ (M.meaning self.now.model.now).scenarios }
-        requires small { (j : ℕ) → unsigned_abs (slice_index_or room.old j (pos 0)) ≤ 126000000000000 }
-        ensures space { length changes.new ≡ length changes.old }
-        ensures losses { (j : ℕ) → j < length room.old → slice_index_or room.new j (pos 0) ≡ slice_index_or room.old j (pos 0) +ℤ leg_of (M.meaning self.now.model.now) self.now.day j trade.entry.row.now }
+    fn add_legs(&self, trade: Trade, changes: &mut [i32], losses: &mut [i64])
+        requires lengths { length changes.old ≡ length losses.old }
+        requires small { (j : ℕ) → unsigned_abs (slice_index_or losses.old j (pos 0)) ≤ 126000000000000 }
+        ensures { (j : ℕ) → j < length losses.old → slice_index_or losses.new j (pos 0) ≡ slice_index_or losses.old j (pos 0) +ℤ leg_of (M.meaning self.now.model.now) self.now.day j trade.entry.row.now }
     {
         self.changes(trade.row, changes);
         let notional = trade.flow(Side::Pay, 1);
-        for (scenario, loss) in room.iter_mut().enumerate() {
+        for (scenario, loss) in losses.iter_mut().enumerate() {
             *loss += notional * changes[scenario] as i64;
         }
     }
 
-    // What the group loses in each scenario, in a room that is 0 throughout.
-    fn fill_losses(&self, group: StandingTrades, changes: &mut [i32], room: &mut [i64])
-        requires space { length changes.old ≡ (M.meaning self.now.model.now).scenarios }
-        requires room { length room.old ≡ (M.meaning self.now.model.now).scenarios }
-        requires nil { (j : ℕ) → slice_index_or room.old j (pos 0) ≡ pos 0 }
-        ensures { room.new ≡ losses_of (M.meaning self.now.model.now) self.now.day group.entry.trades.now }
-    {
-        for trade in group.rows() {
-            self.add_legs(Trade::new(trade), changes, room);
-        }
-    }
-
     // The changes of a trade's residual, negated where the net is below 0.
-    fn turned_changes(&self, trade: &TradeRow, net: i64, room: &mut [i32])
-        ensures { (j : ℕ) → j < length room.old → pos (unsigned_abs net) *ℤ slice_index_or room.new j (pos 0) ≡ net *ℤ (M.meaning self.now.model.now).change self.now.day.set trade.now.benchmark (residual_of self.now.day trade.now) j }
+    fn signed_changes(&self, trade: &TradeRow, net: i64, changes: &mut [i32])
+        ensures { (j : ℕ) → j < length changes.old → pos (unsigned_abs net) *ℤ slice_index_or changes.new j (pos 0) ≡ net *ℤ (M.meaning self.now.model.now).change self.now.day.set trade.now.benchmark (residual_of self.now.day trade.now) j }
     {
-        self.changes(trade, room);
+        self.changes(trade, changes);
         if net < 0 {
-            negate(room);
+            negate(changes);
         }
     }
 
     // The value at risk of trades of one benchmark and residual, those of `first`.
-    fn netted_risk(&self, first: &TradeRow, group: StandingTrades, changes: &mut [i32]) -> u64
-        requires alike { all_alike self.now.day first.now group.trades.now ≡ true }
-        requires space { length changes.old ≡ (M.meaning self.now.model.now).scenarios }
+    fn netted_risk(&self, first: &TradeRow, group: StandingTrades, changes: &mut [i32; 1000]) -> u64
+        requires { all_alike self.now.day first.now group.trades.now ≡ true }
         ensures { result ≡ var_of (M.meaning self.now.model.now) self.now.day group.entry.trades.now }
     {
         let net = net_of(group);
         if net == 0 {
             return 0;
         }
-        let mut places = [0i32; 10];
-        self.turned_changes(first, net, changes);
-        let lowest = lowest_change(changes, &mut places[..(changes.len() / 100).max(1)]);
+        let count = self.model.scenarios() as usize;
+        let changes = &mut changes[..count];
+        self.signed_changes(first, net, changes);
+        let lowest = lowest_of_tail(changes, &mut [0; 10]).unwrap_or(0);
         gain(lowest as i64) * net.unsigned_abs()
     }
 
     // The value at risk of trades of any residuals.
-    fn added_risk(&self, group: StandingTrades, changes: &mut [i32], losses: &mut [i64]) -> u64
-        requires space { length changes.old ≡ (M.meaning self.now.model.now).scenarios }
-        requires room { length losses.old ≡ (M.meaning self.now.model.now).scenarios }
-        ensures { result ≡ var_of (M.meaning self.now.model.now) self.now.day group.entry.trades.now }
-    {
-        let mut places = [0i64; 10];
-        losses.fill(0);
-        self.fill_losses(group, changes, losses);
-        gain(lowest_of_tail(losses, &mut places[..(losses.len() / 100).max(1)]))
-    }
-
-    // The value at risk, in the shortest way. No scenario is walked for an empty group.
-    fn shortest_risk(&self, group: StandingTrades, changes: &mut [i32], losses: &mut [i64]) -> u64
-        requires space { length changes.old ≡ (M.meaning self.now.model.now).scenarios }
-        requires room { length losses.old ≡ (M.meaning self.now.model.now).scenarios }
-        ensures { result ≡ var_of (M.meaning self.now.model.now) self.now.day group.entry.trades.now }
-    {
-        match group.rows().first() {
-            None => 0,
-            Some(first) => {
-                if are_alike(self.day, first, group) {
-                    self.netted_risk(first, group, changes)
-                } else {
-                    self.added_risk(group, changes, losses)
-                }
-            }
-        }
-    }
-
-    // The value at risk of a group. `changes` and `losses` are rooms of one place for each scenario, with anything in them. They are two
-    // slices and no struct, which would not say that the model has as many scenarios.
-    pub(crate) fn value_at_risk(
+    fn summed_risk(
         &self,
         group: StandingTrades,
-        changes: &mut [i32],
-        losses: &mut [i64],
+        changes: &mut [i32; 1000],
+        losses: &mut [i64; 1000],
     ) -> u64
-        requires space { length changes.old ≡ (M.meaning self.now.model.now).scenarios }
-        requires room { length losses.old ≡ (M.meaning self.now.model.now).scenarios }
+        ensures { result ≡ var_of (M.meaning self.now.model.now) self.now.day group.entry.trades.now }
+    {
+        let count = self.model.scenarios() as usize;
+        let changes = &mut changes[..count];
+        let losses = &mut losses[..count];
+        losses.fill(0);
+        for trade in group.rows() {
+            self.add_legs(Trade::new(trade), changes, losses);
+        }
+        gain(lowest_of_tail(losses, &mut [0; 10]).unwrap_or(0))
+    }
+
+    // The value at risk of a group: netted where its trades are all alike, else summed.
+    #[tactic(auto, using(crate::proofs::Apart::var_words, crate::proofs::Apart::var_bound))]
+    pub(crate) fn value_at_risk(&self, group: StandingTrades, scratch: &mut Scratch) -> u64
         ensures value { result ≡ var_of (M.meaning self.now.model.now) self.now.day group.entry.trades.now }
         ensures words { AtRisk (M.meaning self.now.model.now) self.now.day group.entry.trades.now result }
         ensures bound { result ≤ 2000000000000 * length group.entry.trades.now }
     {
-        self.shortest_risk(group, changes, losses)
+        let Scratch { changes, losses } = scratch;
+        match lone_trade(self.day, group) {
+            Some(first) => self.netted_risk(first, group, changes),
+            None => self.summed_risk(group, changes, losses),
+        }
     }
 }

@@ -1,21 +1,23 @@
 // The values at risk of the groups, added up: by residual and by half-year bucket.
-ghost use Rattle.std.specs.Prelude.{◌≡◌, ◌≢◌, ℕ, ◌*◌, ◌<◌, ◌≤◌, ◌⊎◌, true, length, slice_index_or};
-ghost use Rattle.tables.specs.Limits.{no_trade};
+ghost use Rattle.std.specs.Prelude.{◌≡◌, ◌≢◌, ◌*◌, ◌≤◌, Some, None, IfSome, length, slice_index_or};
 ghost use Rattle.tables.specs.declared.row.TradeRow.{TradeRow};
 ghost use Rattle.market.specs.Days.{residual_of};
 ghost use Rattle.risk.specs.declared.grouping.Grouping.TheVariants.{ByResidual, ByHalfYear, ByBenchmark};
-ghost use Rattle.risk.specs.Groups.{all_alike, group_trades};
+ghost use Rattle.risk.specs.Groups.{LoneTrade};
 ghost use Rattle.risk.specs.Losses.{var_of};
-ghost use Rattle.risk.specs.Initial.{grouped_risk};
+ghost use Rattle.risk.specs.Initial.{KnownRisks, KnownLone, GroupRisks, grouped_risk};
 
 use super::gather::gather;
 use super::grouping::Grouping;
-use super::losses::{are_alike, is_lone};
+use super::losses::{Scratch, lone_trade};
 use super::quotes::Quotes;
 use market::day::Day;
 use models::model::MarginModel;
 use tables::row::{NO_TRADE, TradeRow};
 use tables::standing::StandingTrades;
+
+// By group: its value at risk, if it is known. An array, since the engine has no heap: 121 is the most groups that there are.
+type RisksByGroup = [Option<u64>; 121];
 
 // The values at risk by residual and by half-year bucket, added up.
 #[derive(Clone, Copy)]
@@ -24,119 +26,91 @@ pub(crate) struct Sums {
     pub halfyears: u64,
 }
 
-// What is known of the residual that all trades of a group are of, or 0.
-fn lone_risk(day: Day, group: StandingTrades, residuals: &[u64; 121]) -> u64
-    ensures { (result ≡ 0) ⊎ ((0 < length group.entry.trades.now) × (all_alike day (slice_index_or group.entry.trades.now 0 no_trade) group.entry.trades.now ≡ true) × (result ≡ slice_index_or residuals.now (residual_of day (slice_index_or group.entry.trades.now 0 no_trade)) 0)) }
+// What is known of the residual that all trades of a group are of.
+fn lone_risk(day: Day, group: StandingTrades, residuals: &RisksByGroup) -> Option<u64>
+    ensures { IfSome result (λ risk. (f : TradeRow) × LoneTrade day f group.entry.trades.now × (slice_index_or residuals.now (residual_of day f) None ≡ Some risk)) }
 {
-    match group.rows().first() {
-        None => 0,
-        Some(first) => {
-            if are_alike(day, first, group) {
-                residuals[day.residual(first) as usize]
-            } else {
-                0
-            }
-        }
-    }
+    let first = lone_trade(day, group)?;
+    residuals[day.residual(first) as usize]
 }
 
 impl<'a, M: MarginModel> Quotes<'a, M> {
-    // The value at risk of the trades of a group, which are gathered in `room`. What is known and not 0, of the group or of the residual
-    // that all of its trades are of, is not worked out again.
+    // The value at risk of a group. What is known of the residual that all of its trades are of is not worked out again.
     fn group_risk(
         &self,
-        grouping: Grouping,
-        key: u32,
-        known: u64,
-        residuals: &[u64; 121],
-        trades: StandingTrades,
-        room: &mut [TradeRow; 64],
-        changes: &mut [i32],
-        losses: &mut [i64],
+        group: StandingTrades,
+        residuals: &RisksByGroup,
+        scratch: &mut Scratch,
     ) -> u64
-        requires space { length changes.old ≡ (M.meaning self.now.model.now).scenarios }
-        requires losses { length losses.old ≡ (M.meaning self.now.model.now).scenarios }
-        requires halves { grouping ≢ ByBenchmark }
-        requires residuals { (k : ℕ) → k < 121 → (slice_index_or residuals.now k 0 ≡ 0) ⊎ (slice_index_or residuals.now k 0 ≡ var_of (M.meaning self.now.model.now) self.now.day (group_trades ByResidual self.now.day k trades.trades.now)) }
-        requires known { (known ≡ 0) ⊎ (known ≡ var_of (M.meaning self.now.model.now) self.now.day (group_trades grouping self.now.day key trades.trades.now)) }
-        ensures { result ≡ var_of (M.meaning self.now.model.now) self.now.day (group_trades grouping self.now.day key trades.entry.trades.now) }
+        requires { KnownLone (M.meaning self.now.model.now) self.now.day group.trades.now residuals.now }
+        ensures { result ≡ var_of (M.meaning self.now.model.now) self.now.day group.entry.trades.now }
     {
-        if known != 0 {
-            return known;
-        }
-        let group = gather(grouping, self.day, key, trades, room);
-        let kept = lone_risk(self.day, group, residuals);
-        if kept != 0 {
-            return kept;
-        }
-        self.value_at_risk(group, changes, losses)
+        lone_risk(self.day, group, residuals).unwrap_or_else(|| self.value_at_risk(group, scratch))
     }
 
-    // The value at risk of each group, trade by trade, so that no group without trades is walked. They share a room, which is made once.
-    // `residuals` has 0 where nothing is known of a residual.
+    // The value at risk of each group, trade by trade, so that no group without trades is walked. The groups share a room, which is made
+    // once: an array, since the engine has no heap, and 64 is the most trades. By a test and no `get_or_insert_with`, whose closure would have
+    // to say again what the function asks.
+    #[tactic(auto, using(crate::proofs::Alones::known_lone))]
     fn group_risks(
         &self,
         grouping: Grouping,
-        residuals: &[u64; 121],
+        residuals: &RisksByGroup,
         trades: StandingTrades,
-        changes: &mut [i32],
-        losses: &mut [i64],
-    ) -> [u64; 121]
-        requires space { length changes.old ≡ (M.meaning self.now.model.now).scenarios }
-        requires losses { length losses.old ≡ (M.meaning self.now.model.now).scenarios }
+        scratch: &mut Scratch,
+    ) -> RisksByGroup
         requires halves { grouping ≢ ByBenchmark }
-        requires residuals { (k : ℕ) → k < 121 → (slice_index_or residuals.now k 0 ≡ 0) ⊎ (slice_index_or residuals.now k 0 ≡ var_of (M.meaning self.now.model.now) self.now.day (group_trades ByResidual self.now.day k trades.trades.now)) }
-        ensures { (k : ℕ) → k < 121 → slice_index_or result k 0 ≡ var_of (M.meaning self.now.model.now) self.now.day (group_trades grouping self.now.day k trades.entry.trades.now) }
+        requires residuals { KnownRisks (M.meaning self.now.model.now) self.now.day ByResidual trades.trades.now residuals.now }
+        ensures { GroupRisks (M.meaning self.now.model.now) self.now.day grouping trades.entry.trades.now result }
     {
         let mut room = [NO_TRADE; 64];
-        let mut risks = [0; 121];
+        let mut risks = [None; 121];
         for trade in trades.rows() {
             let key = grouping.key(self.day, trade);
-            let known = risks[key as usize];
-            risks[key as usize] = self.group_risk(
-                grouping, key, known, residuals, trades, &mut room, changes, losses,
-            );
+            if risks[key as usize].is_some() {
+                continue;
+            }
+            let group = gather(grouping, self.day, key, trades, &mut room);
+            risks[key as usize] = Some(self.group_risk(group, residuals, scratch));
         }
         risks
     }
 
-    // The values at risk of the groups, added up.
-    #[tactic(auto, unfolding(crate::specs::Initial::grouped_risk, tables::specs::Numbers::sum_below))]
-    fn sum_group_risks(&self, grouping: Grouping, risks: &[u64; 121], trades: StandingTrades) -> u64
-        requires { (k : ℕ) → k < 121 → slice_index_or risks.now k 0 ≡ var_of (M.meaning self.now.model.now) self.now.day (group_trades grouping self.now.day k trades.trades.now) }
+    // The values at risk of the groups, added up. A `for`: nothing bounds the sum of a chain.
+    #[tactic(auto, unfolding(tables::specs::Numbers::sum_below))]
+    fn sum_group_risks(
+        &self,
+        grouping: Grouping,
+        risks: &RisksByGroup,
+        trades: StandingTrades,
+    ) -> u64
+        requires { GroupRisks (M.meaning self.now.model.now) self.now.day grouping trades.trades.now risks.now }
         ensures value { result ≡ grouped_risk (M.meaning self.now.model.now) self.now.day grouping trades.entry.trades.now }
         ensures bound { result ≤ 2000000000000 * length trades.entry.trades.now }
     {
         let mut sum = 0;
-        for key in 0..grouping.groups() {
-            sum += risks[key as usize];
+        for risk in &risks[..grouping.groups() as usize] {
+            sum += risk.unwrap_or(0);
         }
         sum
     }
 
-    // X and Z of trades whose value at risk is `whole`. Where they are all alike, one group has them all.
-    pub(crate) fn sums(
-        &self,
-        trades: StandingTrades,
-        whole: u64,
-        changes: &mut [i32],
-        losses: &mut [i64],
-    ) -> Sums
-        requires space { length changes.old ≡ (M.meaning self.now.model.now).scenarios }
-        requires losses { length losses.old ≡ (M.meaning self.now.model.now).scenarios }
-        requires whole { whole ≡ var_of (M.meaning self.now.model.now) self.now.day trades.trades.now }
+    // X, by residual, and Z, by half-year bucket, of trades whose value at risk is `whole`. Where they are all alike, one group has them all.
+    #[tactic(auto, using(crate::proofs::Apart::var_bound))]
+    pub(crate) fn sums(&self, trades: StandingTrades, whole: u64, scratch: &mut Scratch) -> Sums
+        requires { whole ≡ var_of (M.meaning self.now.model.now) self.now.day trades.trades.now }
         ensures residuals { result.residuals ≡ grouped_risk (M.meaning self.now.model.now) self.now.day ByResidual trades.entry.trades.now }
         ensures halfyears { result.halfyears ≡ grouped_risk (M.meaning self.now.model.now) self.now.day ByHalfYear trades.entry.trades.now }
         ensures bounds { (result.residuals ≤ 2000000000000 * length trades.entry.trades.now) × (result.halfyears ≤ 2000000000000 * length trades.entry.trades.now) }
     {
-        if is_lone(self.day, trades) {
+        if lone_trade(self.day, trades).is_some() {
             return Sums {
                 residuals: whole,
                 halfyears: whole,
             };
         }
-        let residuals = self.group_risks(Grouping::ByResidual, &[0; 121], trades, changes, losses);
-        let halfyears = self.group_risks(Grouping::ByHalfYear, &residuals, trades, changes, losses);
+        let residuals = self.group_risks(Grouping::ByResidual, &[None; 121], trades, scratch);
+        let halfyears = self.group_risks(Grouping::ByHalfYear, &residuals, trades, scratch);
         Sums {
             residuals: self.sum_group_risks(Grouping::ByResidual, &residuals, trades),
             halfyears: self.sum_group_risks(Grouping::ByHalfYear, &halfyears, trades),

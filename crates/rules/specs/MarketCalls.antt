@@ -4,6 +4,7 @@
 -- new_month: the month that a call begins, if it begins one. aged_by, aged: what a market call changes in a book before it settles.
 -- all_settled, after_market: the stand after an accepted market call, and after any.
 -- market_answer, market_reply: an answer with the numbers of a market state, and the answer to a call on tables that keep their limits.
+-- blank_market: an answer without figures.
 -- MarketOutcome, market_outcome: the answer, the market state and both tables after a market call, whatever tables it brings.
 -- MarketAnswered: all that a public market call promises.
 use Rattle.std.specs.Prelude.{◌≡◌, ℕ, ◌-◌, Bool, true, if◌then◌else◌, List, ◌++◌, map, length, replicate, Some, None, filter, Option, nat_le}
@@ -61,6 +62,9 @@ after_market m s c =
 
 abbrev pub market_answer : ℕ → MarketState → MarketAnswer
 market_answer n k = record { number = n; set = k.day.set; month = k.day.month; overnight = k.overnight.volatility; forward = k.forward.volatility }
+
+abbrev pub blank_market : ℕ → MarketAnswer
+blank_market n = record { number = n; month = 0; set = 0; overnight = 0; forward = 0 }
 
 abbrev pub market_reply : Meaning → Stand → MarketCall → MarketAnswer
 market_reply m s c = market_answer (result_number (first_no (market_questions m.sets s.market c))) (after_market m s c).market

@@ -1,6 +1,7 @@
 -- What an account call asks of the named account, in order.
 -- amount_fits, lots_fit, in_term: the tests of an amount, of lots and of a maturity.
--- trade_questions and its like: the questions on each call's numbers and the book as it stands; asked_before: of any call.
+-- trade_questions, end_questions, lodge_cash_questions, draw_cash_questions, lodge_security_questions, draw_security_questions: the questions
+-- on the numbers of each such call and the book as it stands. asked_before: of any call.
 -- traded_questions, drawn_questions, asked_after: the questions on the figures with the change, r being the record as it stands and q as it would settle.
 -- restricted_by: whether a record is restricted; the house by its own flag alone. covered: available reaches the obligation.
 use Rattle.std.specs.Prelude.{ℕ, ◌+◌, Bool, if◌then◌else◌, not, ◌&&◌, ◌||◌, List, [], ◌∷◌, nat_le, nat_lt, slice_index}

@@ -1,6 +1,7 @@
 // The calls on a house, and what they answer.
 ghost use Rattle.std.specs.Prelude.{◌≡◌, Some};
 ghost use Rattle.rules.specs.Outcomes.{blank_answer};
+ghost use Rattle.rules.specs.MarketCalls.{blank_market};
 
 use market::call::MarketCall;
 use std::fmt;
@@ -23,7 +24,7 @@ pub enum AccountCall {
 // The number of the first question that failed, or 0; the figures that the record holds after the call;
 // and the restriction: 0 none, 1 own flag, 2 second flag, 3 both. They are plain numbers since it is part of the C interface.
 #[repr(C)]
-#[derive(Clone, Copy, Debug, PartialEq, Eq)]
+#[derive(Clone, Copy, Debug, Default, PartialEq, Eq)]
 pub struct Answer {
     pub number: u8,
     pub restriction: u8,
@@ -42,7 +43,7 @@ pub struct NamedCall {
 // What a market call answers: the number of the first question that failed, or 0; set and month; and the volatility per cents
 // of both families in tenths, as they stand after the call. They are plain numbers since it is part of the C interface.
 #[repr(C)]
-#[derive(Clone, Copy, Debug, PartialEq, Eq)]
+#[derive(Clone, Copy, Debug, Default, PartialEq, Eq)]
 pub struct MarketAnswer {
     pub number: u8,
     pub month: u16,
@@ -65,7 +66,8 @@ pub enum Reply {
     Market(MarketAnswer),
 }
 
-// A call in a list of calls: it brings the tables as the list so far left them, or others that fail question 1.
+// A call in a list of calls: it brings the tables as the list so far left them, or others that fail question 1. Two kinds and no flag
+// beside the call, since the laws of lists tell the two apart by cases.
 #[derive(Clone, Copy)]
 pub enum Event {
     RightTables(Call),
@@ -79,10 +81,19 @@ impl Answer {
     {
         Answer {
             number,
-            restriction: 0,
-            obligation: 0,
-            available: 0,
-            shortfall: 0,
+            ..Answer::default()
+        }
+    }
+}
+
+impl MarketAnswer {
+    // An answer without figures: that of a call for which there is no market.
+    pub fn blank(number: u8) -> MarketAnswer
+        ensures { result ≡ blank_market number }
+    {
+        MarketAnswer {
+            number,
+            ..MarketAnswer::default()
         }
     }
 }

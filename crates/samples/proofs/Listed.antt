@@ -1,7 +1,14 @@
 -- Names that are listed one after the other.
-use Rattle.std.proofs.Common.{◌≡◌, ℕ, suc, ◌+◌, ◌<◌, ◌≤◌, List, [], ◌∷◌, ◌++◌, length, map, drop, get_or, refl, sym, ap, ◌∙◌, subst, arith, drop-cons, drop_of_length-le}
+use Rattle.std.proofs.Common.{◌≡◌, ℕ, suc, ◌+◌, ◌<◌, ◌≤◌, List, [], ◌∷◌, ◌++◌, length, map, drop, get_or, inl, inr, refl, sym, ap, ◌∙◌, subst, arith, drop-cons, drop_of_length-le}
 use Rattle.std.proofs.lemmas.List.{append-nil, append_assoc}
-use Rattle.samples.specs.Lines.{IsVerdict, sample_line, ListsSamples}
+use Rattle.samples.specs.Lines.{verdict_text, IsVerdict, sample_line, ListsSamples}
+use Rattle.samples.specs.declared.said.Verdict.{Verdict}
+use Rattle.samples.specs.declared.said.Verdict.TheVariants.{AsExpected, Differs}
+
+-- a verdict prints one of the two texts
+pub prints_one : (v : Verdict) → IsVerdict (verdict_text v)
+prints_one AsExpected = inl refl
+prints_one Differs = inr refl
 
 -- with whatever text lists the names from place i, this text lists all the names
 abbrev pub SoFar : {A : Type 0} → (A → List ℕ) → List A → ℕ → List ℕ → Type 0

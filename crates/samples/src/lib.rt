@@ -1,34 +1,39 @@
 // Plays sample files and compares what each run prints with its expected lines.
 #![tactic(auto)]
 
-ghost use Rattle.std.specs.Prelude.{◌≡◌, ◌≢◌, ◌++◌, map, codes, string_bytes, OnOk, IfOk};
-ghost use Rattle.samples.specs.Lines.{IsVerdict, sample_line, ListsSamples};
+ghost use Rattle.std.specs.Prelude.{◌≡◌, ◌≢◌, map, string_bytes, IfOk};
+ghost use Rattle.scan.specs.Texts.{Gains};
+ghost use Rattle.samples.specs.Lines.{verdict_text, sample_line, ListsSamples};
+ghost use Rattle.samples.specs.declared.said.Verdict.TheVariants.{AsExpected, Differs};
 
+pub mod said;
+
+use said::Verdict;
 use std::fmt::Write;
-use std::fs;
+use std::io::Write as WriteBytes;
+use std::{env, fs};
 
 // What is said of a run that prints a text where another is expected.
-pub fn verdict(printed: &str, expected: &str) -> &'static str
-    ensures same { printed.now ≡ expected.now → result.now ≡ codes "as expected" }
-    ensures other { printed.now ≢ expected.now → result.now ≡ codes "DIFFERS" }
-    ensures known { IsVerdict result.now }
+pub fn verdict(printed: &str, expected: &str) -> Verdict
+    ensures same { printed.now ≡ expected.now → result ≡ AsExpected }
+    ensures other { printed.now ≢ expected.now → result ≡ Differs }
 {
     if printed == expected {
-        "as expected"
+        Verdict::AsExpected
     } else {
-        "DIFFERS"
+        Verdict::Differs
     }
 }
 
-// What is said of the run of a sample.
+// What is said of the run of a sample. A struct of `rt`, `ending` and `play` for the three functions that take them: tried; the proof
+// did not close: a ghost field cannot say that an `F` may be called, so each method would have to ask it again.
 fn verdict_of<F: Fn(&HostRuntime, &[u8]) -> anyhow::Result<String>>(
     rt: &HostRuntime,
     name: &str,
     ending: &str,
     play: &F,
-) -> anyhow::Result<&'static str>
+) -> anyhow::Result<Verdict>
     requires { F.IsAlwaysCallable play.now }
-    ensures { IfOk result (λ v. IsVerdict v.now) }
 {
     let heap = rt.alloc();
     let bytes = fs::read(rt, format!(in heap; "{name}.{ending}")?.as_str())?;
@@ -37,8 +42,8 @@ fn verdict_of<F: Fn(&HostRuntime, &[u8]) -> anyhow::Result<String>>(
     Ok(verdict(printed.as_str(), expected.as_str()))
 }
 
-fn write_sample(text: &mut String, name: &str, verdict: &str) -> anyhow::Result<()>
-    ensures { OnOk result (string_bytes text.new ≡ string_bytes text.old ++ sample_line name.now verdict.now) }
+fn write_sample(text: &mut String, name: &str, verdict: Verdict) -> anyhow::Result<()>
+    ensures { Gains result text.old text.new (sample_line name.now (verdict_text verdict)) }
 {
     writeln!(text, "{name} {verdict}")?;
     Ok(())
@@ -60,4 +65,19 @@ pub fn run<F: Fn(&HostRuntime, &[u8]) -> anyhow::Result<String>>(
         write_sample(&mut text, name.as_str(), verdict)?;
     }
     Ok(text)
+}
+
+// The whole of a program that plays samples: those that its arguments name. The text is `run`'s; of what reaches standard
+// output no clause of the library speaks.
+pub fn print_runs<F: Fn(&HostRuntime, &[u8]) -> anyhow::Result<String>>(
+    rt: &HostRuntime,
+    ending: &str,
+    play: F,
+) -> anyhow::Result<()>
+    requires { F.IsAlwaysCallable play }
+{
+    let names: Vec<String> = env::args(rt)?.skip(1).collect(rt.alloc())?;
+    let text = run(rt, names.as_slice(), ending, play)?;
+    rt.stdout().write_all(text.as_bytes())?;
+    Ok(())
 }

@@ -4,6 +4,7 @@
 --   cap             2^64; a larger number reads as it
 --   magnitude_of    the number that one or more digits write
 --   minus           whether a word begins with a minus
+--   signed          such a number with its sign
 --   number_of       the number that a word writes, if it is one: a minus or none, then one or more digits
 --   step, read_on   one digit more, and digits after a number already read: how a reader goes on
 use Rattle.std.specs.Prelude.{ℕ, ◌+◌, ◌-◌, ◌*◌, min, Bool, if◌then◌else◌, ◌&&◌, List, [], ◌∷◌, length, drop, ℤ, pos, neg_ℤ, Some, None, Option, ◌==◌, nat_le, nat_lt, slice_index}

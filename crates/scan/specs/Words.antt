@@ -3,6 +3,7 @@
 --   blanks, letters   how many blanks stand first, and how many bytes before the first blank
 --   word_of           the first word; it is empty where the text has none
 --   rest_of           what follows the first word
+--   after_by          a text, or what comes after, where there is a number
 --   after_number      what follows the first word where it is a number, else the text
 use Rattle.std.specs.Prelude.{ℕ, Bool, List, take, drop, ℤ, Some, None, Option, nat_le}
 use Rattle.std.specs.List.{prefix_len, position_or_len}

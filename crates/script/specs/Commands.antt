@@ -1,8 +1,15 @@
 -- What a line asks for. Assumes nothing.
---   fields_for    the fields that each word wants
---   made          what is asked for by a word with the numbers of its fields
---   command_in    a word's fields read: what is asked for, and the text after them
---   command_of    what a line asks for, nothing where it has no word, or why it cannot be read
+--   trade_fields, five       the fields of a trade without its account, and of five numbers
+--   fields_for               the fields that each word wants
+--   at, five_from            the number of a field, and five from a field on
+--   on_account, of_market    a call of an account, and of the market, as a command
+--   made                     what is asked for by a word with the numbers of its fields
+--   Found, made_of           what is asked for, with the text after its fields
+--   command_in               a word's fields read: what is asked for, and the text after them
+--   ended                    no word may be left
+--   by_word, whole_of        what a text asks for by its first word
+--   asked_in                 what a text asks for, or nothing where it has no word
+--   command_of               what a line asks for, nothing where it has no word, or why it cannot be read
 use Rattle.std.specs.Prelude.{ℕ, cond, List, [], ◌∷◌, ◌++◌, length, take, drop, Some, None, Ok, Err, Option, Result, ◌==◌, slice_index}
 use Rattle.scan.specs.Words.{word_of, rest_of}
 use Rattle.market.specs.declared.call.MarketCall.{MarketCall}
@@ -20,7 +27,6 @@ use Rattle.script.specs.Fields.{Field, name, bits8, bits16, bits32, bits64, then
 use Rattle.script.specs.Lines.{uncommented}
 use Rattle.script.specs.Words.{word_named}
 
--- the fields of a trade without its account, and five numbers
 abbrev pub trade_fields : List Field
 trade_fields = bits32 ∷ bits8 ∷ bits8 ∷ bits16 ∷ bits32 ∷ bits32 ∷ []
 

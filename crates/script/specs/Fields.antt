@@ -2,9 +2,12 @@
 --   Field         what a field may be: a number up to a highest one, or a name
 --   bits8, bits16, bits32, bits64   the four widths
 --   then          goes on with a value, unless there is a reason against it (so no `if ..then ..else` here: `then` is that name's part)
+--   within        a number up to a highest one, or why it is none
 --   number_field  the number that a word gives for a field that holds numbers up to `most`
 --   name_field    a name may be any word; it gives no number, but stands as 0
 --   Converts      what a conversion of a word's number gives as a field
+--   field_of      the number that a word gives for a field
+--   Taken, put    the numbers of fields and the text after them; one number put before the others
 --   fields_of     the fields that stand first in a text, read from left to right, and what follows them;
 --                 the first that fails decides
 --   Reads         whether what was read is what such fields say

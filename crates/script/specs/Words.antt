@@ -1,11 +1,15 @@
 -- The words that a line may begin with. Assumes nothing.
 --   word_text          how each is written
+--   Written            a word, and how it is written
 --   account_words      the words of trades and shows, as they are written
 --   collateral_words   of collateral
 --   market_words       of market calls
 --   session_words      and the others
 --   looked_up          the word that a text is, in such a table
+--   or_else            the first of two words that is there
+--   account_word, collateral_word, market_word, session_word   the word that a text is, in each of the four
 --   word_named         the word that a text is, in all four
+--   account_call_word, market_call_word   the word that asks for a call of an account, and of the market
 --   call_word          the word that asks for a call
 use Rattle.std.specs.Prelude.{ℕ, if◌then◌else◌, List, [], ◌∷◌, Some, None, codes, Option}
 use Rattle.std.specs.Str.{bytes_eq}

@@ -4,7 +4,8 @@ use Rattle.std.proofs.lemmas.List.{append-nil, append_assoc}
 use lib.Utf8.{encode}
 use Rattle.std.specs.List.{repeat}
 use Rattle.std.specs.Fmt.{decimal, styled_decimal, styled_text, padded_integral, padded, format_spec, take_chars, char_count}
-use Rattle.scriptrun.specs.Lines.{line, right, left, restriction_word}
+use Rattle.scan.specs.Texts.{line}
+use Rattle.scriptrun.specs.Lines.{right, left, restriction_word}
 
 blanks : (k : ℕ) → repeat {A = ℕ} k (32 ∷ []) ≡ replicate k 32
 blanks zero = refl

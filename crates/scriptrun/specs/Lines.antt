@@ -1,4 +1,4 @@
--- The lines that a script prints: words and decimal numbers with a blank (byte 32) between two, and a line feed (10) at the end. Assumes nothing.
+-- The lines that a script prints: words and decimal numbers, as `line` of crate `scan` puts them together. Assumes nothing.
 --   reply_line     of line n of the script, a call that was made: the call's word and the reply
 --   refused_line   of a model that was refused: its number, and the place if it has one
 --   right, left    a column of a table: a number at its right end, a word at its left
@@ -6,10 +6,10 @@
 --   report_text    the report of what is held: market, heading, and a row for each account
 --   said_text      of what is said to line n, where this is held after it
 use Rattle.std.specs.Prelude.{ℕ, ◌+◌, ◌-◌, Bool, true, false, List, [], ◌∷◌, ◌++◌, length, replicate, Some, None, Ok, Err, Option, codes}
-use Rattle.std.specs.List.{join_with_byte}
 use Rattle.std.specs.Fmt.{decimal}
 use Rattle.models.specs.Refusals.{number_of, place_of}
 use Rattle.models.specs.declared.refusal.MakingRefusal.{MakingRefusal}
+use Rattle.scan.specs.Texts.{line}
 use Rattle.tables.specs.declared.row.AccountRow.{AccountRow}
 use Rattle.rules.specs.Printing.{reply_text}
 use Rattle.rules.specs.declared.call.Call.{Call}
@@ -19,9 +19,6 @@ use Rattle.script.specs.Reasons.{reason_text}
 use Rattle.session.specs.Held.{Held}
 use Rattle.session.specs.Lines.{Reply as LineReply}
 use Rattle.session.specs.declared.said.Said.TheVariants.{Nothing, Opened, Loaded, Refused, Replied, Report}
-
-abbrev pub line : List (List ℕ) → List ℕ
-line words = join_with_byte 32 words ++ 10 ∷ []
 
 abbrev pub reply_line : ℕ → Call → Reply → List ℕ
 reply_line n c r = line (decimal n ∷ word_text (call_word c) ∷ reply_text r ∷ [])

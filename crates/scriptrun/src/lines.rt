@@ -1,5 +1,6 @@
 // The lines that a run prints.
-ghost use Rattle.std.specs.Prelude.{◌≡◌, ◌++◌, string_bytes, OnOk};
+ghost use Rattle.std.specs.Prelude.{◌≡◌};
+ghost use Rattle.scan.specs.Texts.{Gains};
 ghost use Rattle.session.specs.Held.{held};
 ghost use Rattle.scriptrun.specs.Lines.{reply_line, refused_line, restriction_word, record_line, record_lines, report_line, heading, report_text};
 
@@ -12,7 +13,7 @@ use tables::row::AccountRow;
 
 // The line of a call that was made.
 pub fn write_reply(text: &mut String, line: usize, call: Call, reply: Reply) -> anyhow::Result<()>
-    ensures { OnOk result (string_bytes text.new ≡ string_bytes text.old ++ reply_line line call reply) }
+    ensures { Gains result text.old text.new (reply_line line call reply) }
 {
     let word = Word::from(call);
     writeln!(text, "{line} {word} {reply}")?;
@@ -21,7 +22,7 @@ pub fn write_reply(text: &mut String, line: usize, call: Call, reply: Reply) -> 
 
 // The line of a model that was refused. The statement says the same in other words, so that the refusal has no `Display`.
 pub fn write_refused(text: &mut String, line: usize, refusal: MakingRefusal) -> anyhow::Result<()>
-    ensures { OnOk result (string_bytes text.new ≡ string_bytes text.old ++ refused_line line refusal) }
+    ensures { Gains result text.old text.new (refused_line line refusal) }
 {
     let number = refusal.number();
     match refusal.place() {
@@ -45,7 +46,7 @@ fn restriction(row: &AccountRow) -> &'static str
 
 // A function and no `Display`, which is no plainer: the row is another crate's, and would need a type around it with its account.
 fn write_record(text: &mut String, account: usize, row: &AccountRow) -> anyhow::Result<()>
-    ensures { OnOk result (string_bytes text.new ≡ string_bytes text.old ++ record_line account row.now) }
+    ensures { Gains result text.old text.new (record_line account row.now) }
 {
     let obligation = row.obligation;
     let available = row.available;
@@ -59,7 +60,7 @@ fn write_record(text: &mut String, account: usize, row: &AccountRow) -> anyhow::
 
 // A row for each account.
 fn write_records(text: &mut String, rows: &[AccountRow]) -> anyhow::Result<()>
-    ensures { OnOk result (string_bytes text.new ≡ string_bytes text.old ++ record_lines 0 rows.now) }
+    ensures { Gains result text.old text.new (record_lines 0 rows.now) }
 {
     for (account, row) in rows.iter().enumerate() {
         write_record(text, account, row)?;
@@ -69,7 +70,7 @@ fn write_records(text: &mut String, rows: &[AccountRow]) -> anyhow::Result<()>
 
 // The first line of a report: the market.
 fn write_market(text: &mut String, line: usize, session: &Session) -> anyhow::Result<()>
-    ensures { OnOk result (string_bytes text.new ≡ string_bytes text.old ++ report_line line (held session.now)) }
+    ensures { Gains result text.old text.new (report_line line (held session.now)) }
 {
     let state = session.market();
     let accounts = session.records().len();
@@ -84,7 +85,7 @@ fn write_market(text: &mut String, line: usize, session: &Session) -> anyhow::Re
 
 // The report of a session: its market, and a row for each account.
 pub fn write_report(text: &mut String, line: usize, session: &Session) -> anyhow::Result<()>
-    ensures { OnOk result (string_bytes text.new ≡ string_bytes text.old ++ report_text line (held session.now)) }
+    ensures { Gains result text.old text.new (report_text line (held session.now)) }
 {
     write_market(text, line, session)?;
     writeln!(

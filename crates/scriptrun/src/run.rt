@@ -1,5 +1,6 @@
 // A script played from its first line to its last.
-ghost use Rattle.std.specs.Prelude.{◌≡◌, ◌++◌, string_bytes, OnOk, IfOk};
+ghost use Rattle.std.specs.Prelude.{string_bytes, IfOk};
+ghost use Rattle.scan.specs.Texts.{Gains};
 ghost use Rattle.session.specs.Held.{held};
 ghost use Rattle.scriptrun.specs.Lines.{said_text};
 ghost use Rattle.scriptrun.specs.Runs.{IsTranscript};
@@ -18,7 +19,7 @@ fn write_said(
     session: &Session,
     said: Result<Said, Reason>,
 ) -> anyhow::Result<()>
-    ensures { OnOk result (string_bytes text.new ≡ string_bytes text.old ++ said_text line (held session.now) said) }
+    ensures { Gains result text.old text.new (said_text line (held session.now) said) }
 {
     match said {
         Ok(Said::Nothing) => {}

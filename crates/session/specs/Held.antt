@@ -1,5 +1,6 @@
 -- What a session holds, and what is made of it. Assumes nothing.
 --   Held             accounts, market state, both tables, and the meaning of the model in use
+--   holding          such a record of its five parts
 --   held             what a session holds
 --   first_held       at the start: 1 account, month 0, and a model whose numbers are all 0
 --   opening_result   what an opening that brings its own tables is answered

@@ -1,8 +1,10 @@
 -- What a line of a script makes of a session. Assumes nothing.
+--   Reply   what a line is answered
 --   Takes   a text is taken for a model: what is said (r), and what is held after (k)
 --   Loads   the same of a file, whose text is not known; it may be one that cannot be read, or for which there is no memory
+--   Opens   what an opening does
 --   Does    what a command does
---   Plays   what a line does: nothing where it asks for nothing or has an error, else what its command does
+--   PlaysBy, Plays   what a line does: nothing where it asks for nothing or has an error, else what its command does
 -- Want of memory is the only freedom, and it changes nothing.
 use Rattle.std.specs.Prelude.{◌≡◌, ℕ, ◌⊎◌, List, Some, None, Ok, Err, Option, Result}
 use Rattle.models.specs.declared.refusal.MakingRefusal.{MakingRefusal}

@@ -1,1 +1,3 @@
 pub mod Appended
+pub mod Figures
+pub mod Premises

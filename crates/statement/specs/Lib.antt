@@ -1,1 +1,3 @@
+pub mod Account
 pub mod Printing
+pub mod Worked

@@ -1,4 +1,4 @@
--- What a statement prints: words and decimal numbers with a blank (byte 32) between two, and a line feed (10) at the end of a line. Assumes nothing.
+-- What a statement prints: words and decimal numbers, as `line` of crate `scan` puts them together. Assumes nothing.
 --   model_line        the model's name and counts
 --   benchmark_lines   a heading, and the figures of each benchmark
 --   family_lines      a heading, and the figures of each family
@@ -9,6 +9,7 @@ use Rattle.std.specs.Prelude.{ℕ, ◌+◌, ◌*◌, Bool, List, [], ◌∷◌, 
 use Rattle.std.specs.Fmt.{decimal}
 use Rattle.std.specs.Int.{from_bool}
 use Rattle.models.specs.Meaning.{Meaning}
+use Rattle.scan.specs.Texts.{line}
 use Rattle.tables.specs.declared.row.AccountRow.{AccountRow}
 use Rattle.tables.specs.declared.row.TradeRow.{TradeRow}
 use Rattle.market.specs.declared.state.MarketState.{MarketState}
@@ -17,15 +18,10 @@ use Rattle.margins.specs.Flags.{own_after, second_after}
 use Rattle.margins.specs.Printing.{benchmark_text, family_text}
 use Rattle.margins.specs.declared.figures.Figures.{Figures}
 
--- words with a blank after each; words with a blank between two, and a line feed
+-- words with a blank (byte 32) after each
 abbrev pub words : List (List ℕ) → List ℕ
 words [] = []
 words (w ∷ ws) = w ++ (32 ∷ words ws)
-
-abbrev pub line : List (List ℕ) → List ℕ
-line [] = 10 ∷ []
-line (w ∷ []) = w ++ (10 ∷ [])
-line (w ∷ v ∷ ws) = w ++ (32 ∷ line (v ∷ ws))
 
 abbrev pub model_line : List ℕ → Meaning → List ℕ
 model_line name m = line (codes "model" ∷ name ∷ codes "sets" ∷ decimal m.sets ∷ codes "scenarios" ∷ decimal m.scenarios ∷ [])

@@ -1,6 +1,8 @@
 // An account's file: one entry to a line, a word and its numbers; `#` begins a comment.
-ghost use Rattle.std.specs.Prelude.{◌≡◌, false, []};
+ghost use Rattle.std.specs.Prelude.{◌≡◌, ◌∷◌, false, [], IfOk, OnOk, IsErr};
+ghost use Rattle.std.specs.Int.{from_bool};
 ghost use Rattle.rules.specs.Opening.{opened_market, empty_row};
+ghost use Rattle.statement.specs.Account.{SetsFlags, SetsLots, SetsVolatility, SetsAverages, SetsLevels, SetsSecurity, TradeEntry, AddsTrade, Gives, SetsRestricted, MarketEntry, AccountEntry, Entry};
 
 use anyhow::anyhow;
 use market::state::{Averages, MarketState};
@@ -35,11 +37,15 @@ impl Input {
     }
 }
 
-fn unknown<T>() -> anyhow::Result<T> {
+fn unknown<T>() -> anyhow::Result<T>
+    ensures { IsErr result }
+{
     Err(anyhow!("an account's file has an unknown entry, or one with too few or too many numbers"))
 }
 
-fn flag(number: u64) -> anyhow::Result<bool> {
+fn flag(number: u64) -> anyhow::Result<bool>
+    ensures { IfOk result (λ b. number ≡ from_bool b) }
+{
     match number {
         0 => Ok(false),
         1 => Ok(true),
@@ -48,7 +54,9 @@ fn flag(number: u64) -> anyhow::Result<bool> {
 }
 
 // The number of an entry that has one.
-fn one<T: TryFrom<u64, Error = TryFromIntError> + Drop>(numbers: &[u64]) -> anyhow::Result<T> {
+fn one<T: TryFrom<u64, Error = TryFromIntError> + Drop>(numbers: &[u64]) -> anyhow::Result<T>
+    ensures { IfOk result (λ x. Gives T.try_from_gives numbers.now x) }
+{
     let [number] = numbers else {
         return unknown();
     };
@@ -59,12 +67,16 @@ fn one<T: TryFrom<u64, Error = TryFromIntError> + Drop>(numbers: &[u64]) -> anyh
 fn set<T: TryFrom<u64, Error = TryFromIntError> + Drop>(
     place: &mut T,
     numbers: &[u64],
-) -> anyhow::Result<()> {
+) -> anyhow::Result<()>
+    ensures { OnOk result (Gives T.try_from_gives numbers.now place.new) }
+{
     *place = one(numbers)?;
     Ok(())
 }
 
-fn set_volatility(state: &mut MarketState, numbers: &[u64]) -> anyhow::Result<()> {
+fn set_volatility(state: &mut MarketState, numbers: &[u64]) -> anyhow::Result<()>
+    ensures { OnOk result (SetsVolatility numbers.now state.old state.new) }
+{
     let [overnight, forward] = numbers else {
         return unknown();
     };
@@ -73,7 +85,9 @@ fn set_volatility(state: &mut MarketState, numbers: &[u64]) -> anyhow::Result<()
     Ok(())
 }
 
-fn set_averages(state: &mut MarketState, numbers: &[u64]) -> anyhow::Result<()> {
+fn set_averages(state: &mut MarketState, numbers: &[u64]) -> anyhow::Result<()>
+    ensures { OnOk result (SetsAverages numbers.now state.old state.new) }
+{
     let [family, initial, gross] = numbers else {
         return unknown();
     };
@@ -89,7 +103,9 @@ fn set_averages(state: &mut MarketState, numbers: &[u64]) -> anyhow::Result<()> 
     Ok(())
 }
 
-fn security_of(price: u64, haircut: u64, listed: u64) -> anyhow::Result<SecurityRow> {
+fn security_of(price: u64, haircut: u64, listed: u64) -> anyhow::Result<SecurityRow>
+    ensures { IfOk result (λ s. price ∷ haircut ∷ listed ∷ [] ≡ s.price ∷ s.haircut ∷ from_bool s.listed ∷ []) }
+{
     Ok(SecurityRow {
         price: u32::try_from(price)?,
         haircut: u32::try_from(haircut)?,
@@ -97,7 +113,9 @@ fn security_of(price: u64, haircut: u64, listed: u64) -> anyhow::Result<Security
     })
 }
 
-fn set_security(state: &mut MarketState, numbers: &[u64]) -> anyhow::Result<()> {
+fn set_security(state: &mut MarketState, numbers: &[u64]) -> anyhow::Result<()>
+    ensures { OnOk result (SetsSecurity numbers.now state.old state.new) }
+{
     let [number, price, haircut, listed] = numbers else {
         return unknown();
     };
@@ -108,7 +126,9 @@ fn set_security(state: &mut MarketState, numbers: &[u64]) -> anyhow::Result<()> 
     Ok(())
 }
 
-fn set_lots(row: &mut AccountRow, numbers: &[u64]) -> anyhow::Result<()> {
+fn set_lots(row: &mut AccountRow, numbers: &[u64]) -> anyhow::Result<()>
+    ensures { OnOk result (SetsLots numbers.now row.old row.new) }
+{
     let [number, lots] = numbers else {
         return unknown();
     };
@@ -119,14 +139,18 @@ fn set_lots(row: &mut AccountRow, numbers: &[u64]) -> anyhow::Result<()> {
     Ok(())
 }
 
-fn levels_of(initial: u64, gross: u64) -> anyhow::Result<Levels> {
+fn levels_of(initial: u64, gross: u64) -> anyhow::Result<Levels>
+    ensures { IfOk result (λ l. initial ∷ gross ∷ [] ≡ l.initial ∷ l.gross ∷ []) }
+{
     Ok(Levels {
         initial: u8::try_from(initial)?,
         gross: u8::try_from(gross)?,
     })
 }
 
-fn set_levels(row: &mut AccountRow, numbers: &[u64]) -> anyhow::Result<()> {
+fn set_levels(row: &mut AccountRow, numbers: &[u64]) -> anyhow::Result<()>
+    ensures { OnOk result (SetsLevels numbers.now row.old row.new) }
+{
     let [family, initial, gross] = numbers else {
         return unknown();
     };
@@ -139,7 +163,9 @@ fn set_levels(row: &mut AccountRow, numbers: &[u64]) -> anyhow::Result<()> {
     Ok(())
 }
 
-fn set_flags(row: &mut AccountRow, numbers: &[u64]) -> anyhow::Result<()> {
+fn set_flags(row: &mut AccountRow, numbers: &[u64]) -> anyhow::Result<()>
+    ensures { OnOk result (SetsFlags numbers.now row.old row.new) }
+{
     let [own, second] = numbers else {
         return unknown();
     };
@@ -148,7 +174,9 @@ fn set_flags(row: &mut AccountRow, numbers: &[u64]) -> anyhow::Result<()> {
     Ok(())
 }
 
-fn trade_of(numbers: &[u64]) -> anyhow::Result<TradeRow> {
+fn trade_of(numbers: &[u64]) -> anyhow::Result<TradeRow>
+    ensures { IfOk result (λ t. TradeEntry numbers.now t) }
+{
     let [number, benchmark, side, maturity, notional, rate] = numbers else {
         return unknown();
     };
@@ -163,7 +191,9 @@ fn trade_of(numbers: &[u64]) -> anyhow::Result<TradeRow> {
 }
 
 // An entry of the market.
-fn set_market(state: &mut MarketState, word: &str, numbers: &[u64]) -> anyhow::Result<()> {
+fn set_market(state: &mut MarketState, word: &str, numbers: &[u64]) -> anyhow::Result<()>
+    ensures { OnOk result (MarketEntry word.now numbers.now state.old state.new) }
+{
     match word {
         "month" => set(&mut state.day.month, numbers),
         "set" => set(&mut state.day.set, numbers),
@@ -176,7 +206,9 @@ fn set_market(state: &mut MarketState, word: &str, numbers: &[u64]) -> anyhow::R
 }
 
 // An entry of the account, or of the market.
-fn set_account(input: &mut Input, word: &str, numbers: &[u64]) -> anyhow::Result<()> {
+fn set_account(input: &mut Input, word: &str, numbers: &[u64]) -> anyhow::Result<()>
+    ensures { OnOk result (AccountEntry word.now numbers.now input.old input.new) }
+{
     match word {
         "cash" => set(&mut input.row.cash, numbers),
         "lots" => set_lots(&mut input.row, numbers),
@@ -186,17 +218,23 @@ fn set_account(input: &mut Input, word: &str, numbers: &[u64]) -> anyhow::Result
     }
 }
 
-fn add_trade(input: &mut Input, numbers: &[u64]) -> anyhow::Result<()> {
+fn add_trade(input: &mut Input, numbers: &[u64]) -> anyhow::Result<()>
+    ensures { OnOk result (AddsTrade numbers.now input.old input.new) }
+{
     input.trades.push(trade_of(numbers)?)?;
     Ok(())
 }
 
-fn set_restricted(input: &mut Input, numbers: &[u64]) -> anyhow::Result<()> {
+fn set_restricted(input: &mut Input, numbers: &[u64]) -> anyhow::Result<()>
+    ensures { OnOk result (SetsRestricted numbers.now input.old input.new) }
+{
     input.restricted = flag(one(numbers)?)?;
     Ok(())
 }
 
-fn set_entry(input: &mut Input, word: &str, numbers: &[u64]) -> anyhow::Result<()> {
+fn set_entry(input: &mut Input, word: &str, numbers: &[u64]) -> anyhow::Result<()>
+    ensures { OnOk result (Entry word.now numbers.now input.old input.new) }
+{
     match word {
         "trade" => add_trade(input, numbers),
         "house-restricted" => set_restricted(input, numbers),

@@ -3,6 +3,9 @@
 // Arguments: the account's file, the table model's file, the knot model's file.
 #![tactic(auto)]
 
+ghost use Rattle.std.specs.Prelude.{◌+◌, ◌≤◌, MatchResult};
+ghost use Rattle.models.specs.Refusals.{Unjoinable};
+
 mod account_file;
 mod model_file;
 mod report;
@@ -22,7 +25,7 @@ use owned::making::make;
 use owned::owned_model::{OwnedKnots, OwnedNumbers, OwnedTable};
 use report::statement_of;
 use std::{env, fs, io};
-use worked::print_worked;
+use worked::worked_text;
 
 // The text of the file that an argument names.
 fn text_of(rt: &HostRuntime, path: Option<String>) -> anyhow::Result<String> {
@@ -50,6 +53,13 @@ fn print_statement<M: MarginModel>(
     Ok(())
 }
 
+// Whether the two models are joined with no scenario left out.
+fn may_join(table: &OwnedTable, knots: &OwnedKnots) -> Result<(), MakingRefusal>
+    ensures { MatchResult result (λ _. table.now.sound.numbers.scenarios + knots.now.sound.numbers.scenarios ≤ 1000) (λ e. Unjoinable table.now.sound.numbers.scenarios knots.now.sound.numbers.scenarios e) }
+{
+    check_joined(table.scenarios(), knots.scenarios())
+}
+
 // The statements on both models and on their join.
 fn print_joined(
     rt: &HostRuntime,
@@ -59,7 +69,7 @@ fn print_joined(
 ) -> anyhow::Result<()> {
     print_statement(rt, input, "table", table)?;
     print_statement(rt, input, "knot", knots)?;
-    if let Err(refusal) = check_joined(table.scenarios(), knots.scenarios()) {
+    if let Err(refusal) = may_join(table, knots) {
         return Ok(print_refusal(rt, "joined", refusal)?);
     }
     print_statement(rt, input, "joined", &Joined::new(table, knots))
@@ -108,7 +118,8 @@ fn run(rt: &HostRuntime) -> anyhow::Result<()> {
         KnotLayout::CELLS as usize,
     )?;
     print_both(rt, &input, table, knots)?;
-    print_worked(rt)
+    print!(rt; "{}", worked_text(rt.alloc())?)?;
+    Ok(())
 }
 
 fn main(rt: HostRuntime) -> anyhow::Result<()> {

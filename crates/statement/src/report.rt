@@ -1,8 +1,9 @@
 // The statement of one account on one model.
-ghost use Rattle.std.specs.Prelude.{◌≡◌, [], ◌++◌, string_bytes, OnOk, IfOk};
+ghost use Rattle.std.specs.Prelude.{◌≡◌, [], ◌++◌, string_bytes, IfOk};
+ghost use Rattle.scan.specs.Texts.{line, Gains};
 ghost use Rattle.margins.specs.Figures.{figures_of};
 ghost use Rattle.margins.specs.Flags.{own_after, second_after};
-ghost use Rattle.statement.specs.Printing.{model_line, benchmark_lines, family_lines, collateral_line, owed_words, flags_line, account_line, line, figures_text, statement_text};
+ghost use Rattle.statement.specs.Printing.{model_line, benchmark_lines, family_lines, collateral_line, owed_words, flags_line, account_line, figures_text, statement_text};
 
 use super::account_file::Input;
 use anyhow::Context;
@@ -19,7 +20,7 @@ use tables::standing::StandingTrades;
 
 // The lines below have words between their numbers that no other program prints: functions, and no `Display`.
 fn write_collateral(text: &mut String, cash: u64, f: &Figures) -> anyhow::Result<()>
-    ensures { OnOk result (string_bytes text.new ≡ string_bytes text.old ++ collateral_line cash f.now) }
+    ensures { Gains result text.old text.new (collateral_line cash f.now) }
 {
     let securities = f.securities;
     let total = f.collateral;
@@ -32,7 +33,7 @@ fn write_collateral(text: &mut String, cash: u64, f: &Figures) -> anyhow::Result
 
 // The first words of the line of an account.
 fn write_owed(text: &mut String, f: &Figures) -> anyhow::Result<()>
-    ensures { OnOk result (string_bytes text.new ≡ string_bytes text.old ++ owed_words f.now) }
+    ensures { Gains result text.old text.new (owed_words f.now) }
 {
     let obligation = f.obligation;
     let available = f.available;
@@ -44,24 +45,24 @@ fn write_owed(text: &mut String, f: &Figures) -> anyhow::Result<()>
     Ok(())
 }
 
-// The last line of an account. Its number of a restriction is that of an answer, made in `house`, on which this program does not
+// The last words of the line of an account. Its number of a restriction is that of an answer, made in `house`, on which this program does not
 // stand; a script says it in a word.
 fn write_flags(text: &mut String, own: bool, second: bool) -> anyhow::Result<()>
-    ensures { OnOk result (string_bytes text.new ≡ string_bytes text.old ++ flags_line own second) }
+    ensures { Gains result text.old text.new (flags_line own second) }
 {
     let first = u8::from(own);
     let other = u8::from(second);
-    let both = u16::from(first) + 2 * u16::from(other);
+    let restriction = u16::from(first) + 2 * u16::from(other);
     writeln!(
         text,
-        "own-flag {first} second-flag {other} restriction {both}"
+        "own-flag {first} second-flag {other} restriction {restriction}"
     )?;
     Ok(())
 }
 
 // The flags as they are after settling.
 fn write_settled(text: &mut String, input: &Input, f: &Figures) -> anyhow::Result<()>
-    ensures { OnOk result (string_bytes text.new ≡ string_bytes text.old ++ flags_line (own_after input.now.row.own f.now.obligation f.now.available) (second_after input.now.restricted input.now.row.second f.now.obligation f.now.available)) }
+    ensures { Gains result text.old text.new (flags_line (own_after input.now.row.own f.now.obligation f.now.available) (second_after input.now.restricted input.now.row.second f.now.obligation f.now.available)) }
 {
     let own = own_flag(input.row.own, f.obligation, f.available);
     let second = second_flag(
@@ -74,7 +75,7 @@ fn write_settled(text: &mut String, input: &Input, f: &Figures) -> anyhow::Resul
 }
 
 fn write_account(text: &mut String, input: &Input, f: &Figures) -> anyhow::Result<()>
-    ensures { OnOk result (string_bytes text.new ≡ string_bytes text.old ++ account_line input.now.row input.now.restricted f.now) }
+    ensures { Gains result text.old text.new (account_line input.now.row input.now.restricted f.now) }
 {
     write_owed(text, f)?;
     write_settled(text, input, f)
@@ -97,7 +98,7 @@ pub fn figures_of<'a, M: MarginModel>(
 }
 
 fn write_benchmarks(text: &mut String, f: &Figures) -> anyhow::Result<()>
-    ensures { OnOk result (string_bytes text.new ≡ string_bytes text.old ++ benchmark_lines f.now) }
+    ensures { Gains result text.old text.new (benchmark_lines f.now) }
 {
     writeln!(
         text,
@@ -111,7 +112,7 @@ fn write_benchmarks(text: &mut String, f: &Figures) -> anyhow::Result<()>
 }
 
 fn write_families(text: &mut String, f: &Figures) -> anyhow::Result<()>
-    ensures { OnOk result (string_bytes text.new ≡ string_bytes text.old ++ family_lines f.now) }
+    ensures { Gains result text.old text.new (family_lines f.now) }
 {
     writeln!(
         text,
@@ -123,7 +124,7 @@ fn write_families(text: &mut String, f: &Figures) -> anyhow::Result<()>
 }
 
 fn write_figures(text: &mut String, input: &Input, f: &Figures) -> anyhow::Result<()>
-    ensures { OnOk result (string_bytes text.new ≡ string_bytes text.old ++ figures_text input.now.row input.now.restricted f.now) }
+    ensures { Gains result text.old text.new (figures_text input.now.row input.now.restricted f.now) }
 {
     write_benchmarks(text, f)?;
     write_families(text, f)?;
@@ -132,11 +133,14 @@ fn write_figures(text: &mut String, input: &Input, f: &Figures) -> anyhow::Resul
 }
 
 fn write_model<M: MarginModel>(text: &mut String, name: &str, model: &M) -> anyhow::Result<()>
-    ensures { OnOk result (string_bytes text.new ≡ string_bytes text.old ++ model_line name.now (M.meaning model.now)) }
+    ensures { Gains result text.old text.new (model_line name.now (M.meaning model.now)) }
 {
-    let sets = model.sets();
-    let scenarios = model.scenarios();
-    writeln!(text, "model {name} sets {sets} scenarios {scenarios}")?;
+    writeln!(
+        text,
+        "model {name} sets {} scenarios {}",
+        model.sets(),
+        model.scenarios()
+    )?;
     Ok(())
 }
 
@@ -148,11 +152,11 @@ fn write_statement<M: MarginModel>(
     model: &M,
     f: &Figures,
 ) -> anyhow::Result<()>
-    ensures { OnOk result (string_bytes text.new ≡ string_bytes text.old ++ (model_line name.now (M.meaning model.now) ++ figures_text input.now.row input.now.restricted f.now ++ line [])) }
+    ensures { Gains result text.old text.new (model_line name.now (M.meaning model.now) ++ figures_text input.now.row input.now.restricted f.now ++ line []) }
 {
     write_model(text, name, model)?;
     write_figures(text, input, f)?;
-    writeln!(text, "")?;
+    text.push('\n')?;
     Ok(())
 }
 

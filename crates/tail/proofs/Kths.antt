@@ -1,23 +1,15 @@
 -- The k-th of the entries from the highest down is the k-th highest.
 use Rattle.std.proofs.Common.{◌≡◌, ℕ, zero, suc, ◌+◌, ◌-◌, ◌<◌, ◌≤◌, min, Bool, true, false, cond, List, [], ◌∷◌, ◌++◌, length, get_or, take, fold, count_by, ◌⊎◌, inl, inr, ⊎_elim, Option, None, Some, MatchOption, sym, refl, ap, ◌∙◌, subst, true≢false, arith}
 use Rattle.std.specs.List.{ContainsAt, AllByRecursion}
-use Rattle.std.proofs.lemmas.Bool.{cases_lt}
+use Rattle.std.proofs.lemmas.Bool.{cases_lt, false_from_ne_true, true_from_ne_false}
 use Rattle.std.proofs.lemmas.List.Sums.{sum_by-cons, fold_push}
-use Rattle.std.proofs.lemmas.List.{get_or-take, get_or_default, take_all, take_at, take_more, length_push, length-take-le}
+use Rattle.std.proofs.lemmas.List.{get_or-take, get_or_default, take_at, length_push, length-take-le}
 use Rattle.std.proofs.ByRecursion.{All-weaker, All-get_or, All-take, all_has_itself}
 use Rattle.tail.proofs.Places.{placed_take}
 use Rattle.tail.specs.Tail.{Orders, Holds, placed, ranked, count_at_least, Kth, Short}
 
 abbrev pub one : Bool → ℕ
 one b = cond b 1 0
-
-pub refute : (b : Bool) → (b ≡ true → ⊥) → b ≡ false
-refute true h = absurd (h refl)
-refute false h = refl
-
-affirm : (b : Bool) → (b ≡ false → ⊥) → b ≡ true
-affirm true h = refl
-affirm false h = absurd (h refl)
 
 -- each entry is at least each later one
 abbrev pub Falls : {X : Type 0} → (X → X → Bool) → List X → Type 0
@@ -128,7 +120,7 @@ module _ {X : Type 0} {ge : X → X → Bool} (o : Orders ge) where
   falls_few [] j l m f lt read no-reach = absurd (omega arith)
   falls_few (y ∷ ys) zero l m f lt read below =
       let e : ge y m ≡ false = subst (λ z. ge z m ≡ false) read below in
-      let none : AllByRecursion (λ z. ge z m ≡ false) ys = All-weaker (λ z. ge y z ≡ true) (λ z. ge z m ≡ false) (λ z up. refute (ge z m) (λ k. true≢false (sym (o.chain y z m up k) ∙ e))) ys f.0 in
+      let none : AllByRecursion (λ z. ge z m ≡ false) ys = All-weaker (λ z. ge y z ≡ true) (λ z. ge z m ≡ false) (λ z up. false_from_ne_true (ge z m) (λ k. true≢false (sym (o.chain y z m up k) ∙ e))) ys f.0 in
       let n : one (ge y m) ≡ 0 = ap one e in
       omega (arith, count_cons (λ x. ge x m) y ys, count_none (λ x. ge x m) ys none)
   falls_few (y ∷ ys) (suc j) l m f lt read below =
@@ -141,7 +133,7 @@ module _ {X : Type 0} {ge : X → X → Bool} (o : Orders ge) where
       let f = falls_ranked xs in
       record {
         enough = omega (arith, count_ranked ge (λ x. ge x l) xs, falls_enough (ranked ge xs) (k - 1) l f lt read);
-        greatest = λ m many. affirm (ge l m) (λ below.
+        greatest = λ m many. true_from_ne_false (ge l m) (λ below.
             let few = falls_few (ranked ge xs) (k - 1) l m f lt read below in
             let c = count_ranked ge (λ x. ge x m) xs in
             omega arith);
@@ -159,14 +151,6 @@ module _ {X : Type 0} (ge : X → X → Bool) where
         ∙ ap (take (length ps)) (sym (fold_push (λ ys y. placed ge y ys) [] xs x))
         ∙ ap (λ m. take m (ranked ge (xs ++ x ∷ []))) (sym same);
   }
-
-  -- a loop over xs: one entry more
-  pub holds_more : (xs : List X) (i : ℕ) (x : X) (f r : ℕ) (ps qs : List X) → i < length xs → x ≡ get_or xs i x → ((ys : List X) → Holds ge ys f ps → Holds ge (ys ++ x ∷ []) r qs) → Holds ge (take i xs) f ps → Holds ge (take (i + 1) xs) r qs
-  holds_more xs i x f r ps qs lt read step h = subst (λ u. Holds ge u r qs) (ap (λ y. take i xs ++ y ∷ []) read ∙ sym (take_more xs i x lt)) (step (take i xs) h)
-
-  -- its end
-  pub holds_all : (xs : List X) (i f : ℕ) (ps : List X) → length xs ≤ i → Holds ge (take i xs) f ps → Holds ge xs f ps
-  holds_all xs i f ps le h = subst (λ u. Holds ge u f ps) (take_all i xs le) h
 
   -- what stands in the last of the places, all filled
   pub last_held : (xs ps : List X) (f k : ℕ) (l : X) → Holds ge xs f ps → length ps ≡ k → f ≡ k → 0 < k → l ≡ get_or ps (f - 1) l → (d : X) → l ≡ get_or (ranked ge xs) (k - 1) d

@@ -1,14 +1,17 @@
 -- What a threshold rules out: where at least k entries reach it, the k highest are among those that do.
-use Rattle.std.proofs.Common.{◌≡◌, ℕ, zero, suc, ◌+◌, ◌-◌, ◌*◌, ◌/◌, ◌<◌, ◌≤◌, Bool, true, false, cond, List, [], ◌∷◌, ◌++◌, length, get_or, take, drop, fold, count_by, ⊎_elim, sym, refl, ap, ◌∙◌, subst, true≢false, arith, append_assoc, length-append}
+use Rattle.std.proofs.Common.{◌≡◌, ℕ, zero, suc, ◌+◌, ◌-◌, ◌*◌, ◌/◌, ◌<◌, ◌≤◌, Bool, true, false, cond, List, [], ◌∷◌, ◌++◌, length, get_or, take, drop, fold, count_by, Option, None, Some, IfSome, IsSomeAnd, MatchOption, ◌⊎◌, inl, inr, ⊎_elim, sym, refl, ap, ◌∙◌, subst, true≢false, arith, append_assoc, length-append}
+use denote.Ref.{Bor}
+use denote.Param.Members.{Shared}
+use Rattle.std.specs.Fn.{FnReturnsAt}
 use Rattle.std.specs.List.{AllByRecursion, ContainsAt, filter}
 use Rattle.std.proofs.Math.Nat.{mul-div-le, mul-le-mul_right, add-mul}
 use Rattle.std.proofs.Math.Seq.{take-nil}
-use Rattle.std.proofs.lemmas.Bool.{cases_lt}
+use Rattle.std.proofs.lemmas.Bool.{cases_lt, false_from_ne_true}
 use Rattle.std.proofs.lemmas.List.{append-nil, take_all}
 use Rattle.std.proofs.lemmas.List.Elements.{filter-append}
 use Rattle.std.proofs.lemmas.List.Sums.{length-filter, count_by-le-length, sum_by-append}
-use Rattle.std.proofs.ByRecursion.{All-weaker}
-use Rattle.tail.proofs.Kths.{Falls, one, refute, itself, count_cons, count_none, falls_placed, falls_ranked, count_ranked, holds_stays}
+use Rattle.std.proofs.ByRecursion.{All-weaker, all_has_itself}
+use Rattle.tail.proofs.Kths.{Falls, one, itself, count_cons, count_none, falls_placed, falls_ranked, count_ranked, holds_stays}
 use Rattle.tail.specs.Tail.{Orders, Holds, placed, ranked, count_at_least}
 
 module _ {X : Type 0} (ge : X → X → Bool) (t : X) where
@@ -43,7 +46,7 @@ module _ {X : Type 0} {ge : X → X → Bool} (o : Orders ge) (t : X) where
             let high : ge y t ≡ true = o.chain y x t up e in
             rw (high, up) (ap (λ u. y ∷ u) (placed_reaches x ys e f.1))
         | false ↦ λ down.
-            let below : AllByRecursion (λ z. ge z x ≡ false) ys = All-weaker (λ z. ge y z ≡ true) (λ z. ge z x ≡ false) (λ z up. refute (ge z x) (λ k. true≢false (sym (o.chain y z x up k) ∙ down))) ys f.0 in
+            let below : AllByRecursion (λ z. ge z x ≡ false) ys = All-weaker (λ z. ge y z ≡ true) (λ z. ge z x ≡ false) (λ z up. false_from_ne_true (ge z x) (λ k. true≢false (sym (o.chain y z x up k) ∙ down))) ys f.0 in
             ap (λ b. cond b (x ∷ reaching ge t (y ∷ ys)) (reaching ge t (y ∷ ys))) e
             ∙ sym (placed_first ge t x (y ∷ ys) (down, below))
       ] in
@@ -73,7 +76,7 @@ module _ {X : Type 0} {ge : X → X → Bool} (o : Orders ge) (t : X) where
             ap (λ u. y ∷ u) (reaching_first k ys f.1 (omega arith))
         | false ↦ λ e.
             let n : one (ge y t) ≡ 0 = ap one e in
-            let none : AllByRecursion (λ z. ge z t ≡ false) ys = All-weaker (λ z. ge y z ≡ true) (λ z. ge z t ≡ false) (λ z up. refute (ge z t) (λ k. true≢false (sym (o.chain y z t up k) ∙ e))) ys f.0 in
+            let none : AllByRecursion (λ z. ge z t ≡ false) ys = All-weaker (λ z. ge y z ≡ true) (λ z. ge z t ≡ false) (λ z up. false_from_ne_true (ge z t) (λ k. true≢false (sym (o.chain y z t up k) ∙ e))) ys f.0 in
             let z = count_none (λ x. ge x t) ys none in
             absurd (omega arith)
       ] in
@@ -93,41 +96,17 @@ module _ {X : Type 0} where
 pub holds_none : {X : Type 0} (ge : X → X → Bool) (ps : List X) → Holds ge [] 0 ps
 holds_none ge ps = record { count = omega arith; top = sym (take-nil (length ps)) }
 
--- through the entries that are done: what the places held of some before, they hold of those and the done
-pub record Done {X : Type 0} (ge : X → X → Bool) (f : ℕ) (ps : List X) (xs rest : List X) (r : ℕ) (qs : List X) : Type 0 where
-  pub done : List X
-  pub parts : xs ≡ done ++ rest
-  pub step : (ys : List X) → Holds ge ys f ps → Holds ge (ys ++ done) r qs
+-- what reaches the threshold, where there is one
+abbrev pub of_bar : {X : Type 0} → (X → X → Bool) → Option X → List X → List X
+of_bar ge None xs = xs
+of_bar ge (Some t) xs = reaching ge t xs
 
-module _ {X : Type 0} (ge : X → X → Bool) (f : ℕ) (ps xs : List X) where
-  pub done_none : Done ge f ps xs xs f ps
-  done_none = record { done = []; parts = refl; step = λ ys h. subst (λ u. Holds ge u f ps) (sym (append-nil ys)) h }
-
-  done_with : (more rest : List X) (r s : ℕ) (qs ws : List X) → ((ys : List X) → Holds ge ys r qs → Holds ge (ys ++ more) s ws) → Done ge f ps xs (more ++ rest) r qs → Done ge f ps xs rest s ws
-  done_with more rest r s qs ws step d = record {
-    done = d.done ++ more;
-    parts = d.parts ∙ sym (append_assoc d.done more rest);
-    step = λ ys h. subst (λ u. Holds ge u s ws) (append_assoc ys d.done more) (step (ys ++ d.done) (d.step ys h));
-  }
-
-  pub done_from : (left : List X) (r : ℕ) (qs rest : List X) → (gone : List X) × (left ≡ gone ++ rest) × ((ys : List X) → Holds ge ys r qs → Holds ge (ys ++ gone) r qs) → Done ge f ps xs left r qs → Done ge f ps xs rest r qs
-  done_from left r qs rest p d = done_with p.0 rest r r qs qs p.2 (subst (λ u. Done ge f ps xs u r qs) p.1 d)
-
-  pub done_more : (left : List X) (x : X) (r s : ℕ) (qs ws : List X) → 1 ≤ length left → x ≡ get_or left 0 x → ((ys : List X) → Holds ge ys r qs → Holds ge (ys ++ x ∷ []) s ws) → Done ge f ps xs left r qs → Done ge f ps xs (take (length left - 1) (drop 1 left)) s ws
-  done_more left x r s qs ws le read step d =
-      done_with (x ∷ []) (take (length left - 1) (drop 1 left)) r s qs ws step (subst (λ u. Done ge f ps xs u r qs) (first_and_others left x le read) d)
-
-  pub done_all : (left : List X) (r : ℕ) (qs : List X) → left ≡ [] → Done ge f ps xs left r qs → (ys : List X) → Holds ge ys f ps → Holds ge (ys ++ xs) r qs
-  done_all left r qs none d ys h =
-      let all : xs ≡ d.done = d.parts ∙ ap (λ u. d.done ++ u) none ∙ append-nil d.done in
-      subst (λ u. Holds ge (ys ++ u) r qs) (sym all) (d.step ys h)
-
--- through the entries that are done: what the places hold, they hold of some that are those done but for what does not reach t
-pub record Kept {X : Type 0} (ge : X → X → Bool) (t : X) (xs rest : List X) (f : ℕ) (ps : List X) : Type 0 where
+-- through the entries that are done: what the places hold, they hold of some that are those done but for what does not reach the threshold
+pub record Kept {X : Type 0} (ge : X → X → Bool) (bar : Option X) (xs rest : List X) (f : ℕ) (ps : List X) : Type 0 where
   pub done : List X
   pub some : List X
   pub parts : xs ≡ done ++ rest
-  pub same : reaching ge t some ≡ reaching ge t done
+  pub same : of_bar ge bar some ≡ of_bar ge bar done
   pub holds : Holds ge some f ps
 
 module _ {X : Type 0} {ge : X → X → Bool} (o : Orders ge) where
@@ -138,51 +117,64 @@ module _ {X : Type 0} {ge : X → X → Bool} (o : Orders ge) where
       subst (λ u. Holds ge u f ps) (append_assoc xs (x ∷ []) gone)
       (holds_with (xs ++ x ∷ []) gone ps f l full some at h.1 (holds_stays o xs ps f l x full some at (sym h.0) k))
 
-module _ {X : Type 0} {ge : X → X → Bool} (o : Orders ge) (t : X) (xs : List X) where
-  pub kept_none : (ps : List X) → Kept ge t xs xs 0 ps
+module _ {X : Type 0} (ge : X → X → Bool) where
+  misses : (t : X) (gone : List X) → AllByRecursion (λ y. ge y t ≡ false) gone → reaching ge t gone ≡ []
+  misses t [] h = refl
+  misses t (x ∷ gone) h = rw h.0 (misses t gone h.1)
+
+  with_more : (bar : Option X) (some done more : List X) → of_bar ge bar some ≡ of_bar ge bar done → of_bar ge bar (some ++ more) ≡ of_bar ge bar (done ++ more)
+  with_more None some done more e = ap (λ u. u ++ more) e
+  with_more (Some t) some done more e =
+      filter-append (λ y. ge y t) some more ∙ ap (λ u. u ++ reaching ge t more) e ∙ sym (filter-append (λ y. ge y t) done more)
+
+  with_missed : (bar : Option X) (done gone : List X) → IsSomeAnd bar (λ t. AllByRecursion (λ y. ge y t ≡ false) gone) → of_bar ge bar done ≡ of_bar ge bar (done ++ gone)
+  with_missed None done gone h = absurd h
+  with_missed (Some t) done gone h =
+      sym (append-nil (reaching ge t done)) ∙ ap (λ u. reaching ge t done ++ u) (sym (misses t gone h)) ∙ sym (filter-append (λ y. ge y t) done gone)
+
+module _ {X : Type 0} (ge : X → X → Bool) (bar : Option X) (xs : List X) where
+  pub kept_none : (ps : List X) → Kept ge bar xs xs 0 ps
   kept_none ps = record { done = []; some = []; parts = refl; same = refl; holds = holds_none ge ps }
 
-  both : (some done more : List X) → reaching ge t some ≡ reaching ge t done → reaching ge t (some ++ more) ≡ reaching ge t (done ++ more)
-  both some done more e = filter-append (λ y. ge y t) some more ∙ ap (λ u. u ++ reaching ge t more) e ∙ sym (filter-append (λ y. ge y t) done more)
-
-  misses : (gone : List X) → AllByRecursion (λ y. ge y t ≡ false) gone → reaching ge t gone ≡ []
-  misses [] h = refl
-  misses (x ∷ gone) h = rw h.0 (misses gone h.1)
-
-  -- what does not reach t is passed over
-  pub kept_below : (gone rest : List X) (f : ℕ) (ps : List X) → AllByRecursion (λ y. ge y t ≡ false) gone → Kept ge t xs (gone ++ rest) f ps → Kept ge t xs rest f ps
+  -- what does not reach the threshold is passed over
+  kept_below : (gone rest : List X) (f : ℕ) (ps : List X) → IsSomeAnd bar (λ t. AllByRecursion (λ y. ge y t ≡ false) gone) → Kept ge bar xs (gone ++ rest) f ps → Kept ge bar xs rest f ps
   kept_below gone rest f ps h k = record {
     done = k.done ++ gone;
     some = k.some;
     parts = k.parts ∙ sym (append_assoc k.done gone rest);
-    same = k.same ∙ sym (append-nil (reaching ge t k.done)) ∙ ap (λ u. reaching ge t k.done ++ u) (sym (misses gone h)) ∙ sym (filter-append (λ y. ge y t) k.done gone);
+    same = k.same ∙ with_missed ge bar k.done gone h;
     holds = k.holds;
   }
 
   -- more are done, whether they are kept or change nothing
-  pub kept_with : (more rest : List X) (f r : ℕ) (ps qs : List X) → ((ys : List X) → Holds ge ys f ps → Holds ge (ys ++ more) r qs) → Kept ge t xs (more ++ rest) f ps → Kept ge t xs rest r qs
+  kept_with : (more rest : List X) (f r : ℕ) (ps qs : List X) → ((ys : List X) → Holds ge ys f ps → Holds ge (ys ++ more) r qs) → Kept ge bar xs (more ++ rest) f ps → Kept ge bar xs rest r qs
   kept_with more rest f r ps qs step k = record {
     done = k.done ++ more;
     some = k.some ++ more;
     parts = k.parts ∙ sym (append_assoc k.done more rest);
-    same = both k.some k.done more k.same;
+    same = with_more ge bar k.some k.done more k.same;
     holds = step k.some k.holds;
   }
 
-  pub kept_from : (left : List X) (f : ℕ) (ps rest : List X) → (gone : List X) × (left ≡ gone ++ rest) × AllByRecursion (λ y. ge y t ≡ false) gone → Kept ge t xs left f ps → Kept ge t xs rest f ps
-  kept_from left f ps rest p k = kept_below p.0 rest f ps p.2 (subst (λ u. Kept ge t xs u f ps) p.1 k)
+  pub kept_from : (left : List X) (f : ℕ) (ps rest : List X)
+      → (gone : List X) × (left ≡ gone ++ rest) × (IsSomeAnd bar (λ t. AllByRecursion (λ y. ge y t ≡ false) gone) ⊎ ((ys : List X) → Holds ge ys f ps → Holds ge (ys ++ gone) f ps))
+      → Kept ge bar xs left f ps → Kept ge bar xs rest f ps
+  kept_from left f ps rest p k =
+      let here : Kept ge bar xs (p.0 ++ rest) f ps = subst (λ u. Kept ge bar xs u f ps) p.1 k in
+      elim p.2 [
+        | inl missed ↦ kept_below p.0 rest f ps missed here
+        | inr stays ↦ kept_with p.0 rest f f ps ps stays here
+      ]
 
-  pub kept_more : (left : List X) (x : X) (f r : ℕ) (ps qs : List X) → 1 ≤ length left → x ≡ get_or left 0 x → ((ys : List X) → Holds ge ys f ps → Holds ge (ys ++ x ∷ []) r qs) → Kept ge t xs left f ps → Kept ge t xs (take (length left - 1) (drop 1 left)) r qs
+  pub kept_more : (left : List X) (x : X) (f r : ℕ) (ps qs : List X) → 1 ≤ length left → x ≡ get_or left 0 x → ((ys : List X) → Holds ge ys f ps → Holds ge (ys ++ x ∷ []) r qs) → Kept ge bar xs left f ps → Kept ge bar xs (take (length left - 1) (drop 1 left)) r qs
   kept_more left x f r ps qs le read step k =
-      kept_with (x ∷ []) (take (length left - 1) (drop 1 left)) f r ps qs step (subst (λ u. Kept ge t xs u f ps) (first_and_others left x le read) k)
+      kept_with (x ∷ []) (take (length left - 1) (drop 1 left)) f r ps qs step (subst (λ u. Kept ge bar xs u f ps) (first_and_others left x le read) k)
 
-  -- what is left is done in one step
-  pub kept_rest : (rest : List X) (f r : ℕ) (ps qs : List X) → ((ys : List X) → Holds ge ys f ps → Holds ge (ys ++ rest) r qs) → Kept ge t xs rest f ps → Kept ge t xs [] r qs
-  kept_rest rest f r ps qs step k = kept_with rest [] f r ps qs step (subst (λ u. Kept ge t xs u f ps) (sym (append-nil rest)) k)
-
+module _ {X : Type 0} {ge : X → X → Bool} (o : Orders ge) (xs : List X) where
   -- the end: of all entries the places hold the same
-  pub kept_all : (f : ℕ) (ps : List X) → length ps ≤ count_at_least ge t xs → Kept ge t xs [] f ps → Holds ge xs f ps
-  kept_all f ps le k =
+  pub kept_all : (bar : Option X) (f : ℕ) (ps : List X) → IfSome bar (λ t. length ps ≤ count_at_least ge t xs) → Kept ge bar xs [] f ps → Holds ge xs f ps
+  kept_all None f ps le k = subst (λ u. Holds ge u f ps) (k.same ∙ sym (k.parts ∙ append-nil k.done)) k.holds
+  kept_all (Some t) f ps le k =
       let n = length ps in
       let all : xs ≡ k.done = k.parts ∙ append-nil k.done in
       let same : reaching ge t k.some ≡ reaching ge t xs = k.same ∙ ap (reaching ge t) (sym all) in
@@ -204,10 +196,6 @@ module _ {X : Type 0} where
   two_and_others (a ∷ []) x y le first second = absurd (omega arith)
   two_and_others (a ∷ b ∷ ys) x y le first second =
       ap (λ z. z ∷ b ∷ ys) (sym first) ∙ ap (λ z. x ∷ z ∷ ys) (sym second) ∙ ap (λ u. x ∷ y ∷ u) (sym (take_all (suc (suc (length ys)) - 2) ys (omega arith)))
-
-  pub none_left : (ys : List X) → length ys < 1 → ys ≡ []
-  none_left [] lt = refl
-  none_left (y ∷ ys) lt = absurd (omega arith)
 
   all_push : (P : X → Type 0) (ys : List X) (x : X) → AllByRecursion P ys → P x → AllByRecursion P (ys ++ x ∷ [])
   all_push P [] x h k = (k, tt)
@@ -231,6 +219,24 @@ module _ {X : Type 0} where
     h.1 ∙ ap (λ u. h.0 ++ u) (two_and_others rest x y le first second) ∙ sym (append_assoc h.0 (x ∷ y ∷ []) (take (length rest - 2) (drop 2 rest))),
     all_two P h.0 x y h.2 fails fails_too,
   )
+
+module _ {X : Type 0} (ge : X → X → Bool) where
+  fold_among : (P : X → Type 0) (x : X) (xs : List X) → P x → AllByRecursion P xs → P (fold (λ a b. cond (ge a b) a b) x xs)
+  fold_among P x [] h k = h
+  fold_among P x (y ∷ ys) h k = fold_among P (cond (ge x y) x y) ys (elim (ge x y) as (λ b. P (cond b x y)) [ true ↦ h | false ↦ k.0 ]) k.1
+
+  -- the higher of each two is one of them
+  pub best_among : (Acts : (X → X → X) → Type 0) (xs items : List X) (n : ℕ) (r : Option X) → items ≡ xs → n ≡ length items → Acts (λ a b. cond (ge a b) a b)
+      → MatchOption r (n ≡ 0) (λ y. (0 < n) × ((z : X) × (zs : List X) × (items ≡ z ∷ zs) × ((h : X → X → X) → Acts h → y ≡ fold h z zs))) → MatchOption r (length xs ≡ 0) (ContainsAt xs)
+  best_among Acts xs items n None e len acts none = omega (arith, ap length e)
+  best_among Acts xs items n (Some y) e len acts some =
+      let q = some.1 in
+      let all : AllByRecursion (ContainsAt xs) (q.0 ∷ q.1) = subst (AllByRecursion (ContainsAt xs)) (sym e ∙ q.2) (all_has_itself xs) in
+      subst (ContainsAt xs) (sym (q.3 (λ a b. cond (ge a b) a b) acts)) (fold_among (ContainsAt xs) q.0 q.1 all.0 all.1)
+
+-- what a call at a reference gave
+pub fails_at : {F X : Type 0} (g : Shared F (Bor X × Unit {0}) Bool) (f : F) (p : Bor X) (b : Bool) → g.post f (p, tt) b → b ≡ false → FnReturnsAt g f p.now false
+fails_at g f p b met e = record { shown = p; shows = refl; says = record { met = subst (g.post f (p, tt)) e met } }
 
 -- n chunks of xs are through, each of so many entries, and rest is left: as many of xs reach what l reaches as of the rest, and n more
 pub record Reached {X : Type 0} (ge : X → X → Bool) (xs : List X) (size n : ℕ) (rest : List X) (l : X) : Type 0 where

@@ -2,6 +2,7 @@
 -- Orders: an order that compares any two, ties allowed. reaches_loss: losses, by their size.
 -- placed, ranked: the entries from the highest down, ties in the order in which they came.
 -- Holds: what the keeper's places hold after some entries.
+-- count_at_least: how many entries reach one.
 -- Kth: the k-th highest. Short: there is none.
 use Rattle.std.specs.Prelude.{◌≡◌, ℕ, ◌<◌, ◌≤◌, min, Bool, true, false, cond, ◌⊎◌, List, [], ◌∷◌, length, take, ℤ, fold, count_by, int_le}
 use Rattle.std.specs.List.{ContainsAt}

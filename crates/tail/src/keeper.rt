@@ -1,36 +1,31 @@
 // The keeper of the k highest: as many places as entries are to be kept, filled from the highest down.
 // A threshold is found first, which at least k entries reach: what does not reach it never comes to the places.
-ghost use Rattle.std.specs.Prelude.{◌≡◌, ◌+◌, ◌-◌, ◌≤◌, ◌<◌, ◌⊎◌, min, not, true, false, cond, List, [], ◌∷◌, ◌++◌, length, take, IfSome, MatchOption, slice_index_or};
+ghost use Rattle.std.specs.Prelude.{◌≡◌, ◌+◌, ◌-◌, ◌≤◌, ◌<◌, ◌⊎◌, min, not, false, cond, List, [], ◌∷◌, ◌++◌, length, take, IfSome, IsSomeAnd, MatchOption, slice_index_or};
+ghost use Rattle.std.specs.Fn.{FnReturnsAt};
 ghost use Rattle.std.specs.List.{position, AllByRecursion, ContainsAt};
 ghost use Rattle.tail.specs.Tail.{Holds, placed, ranked, count_at_least, Kth, Short};
 
 use super::order::Ranked;
 
-fn higher<T: Ranked + Copy>(x: T, y: T) -> T
-    ensures { result ≡ cond (T.reaches x y) x y }
+// The highest of a chunk: none of an empty one. That it is one of them is all that a threshold needs.
+fn highest<T: Ranked + Copy>(chunk: &[T]) -> Option<T>
+    ensures { MatchOption result (length chunk.now ≡ 0) (ContainsAt chunk.now) }
 {
-    if x.at_least(&y) { x } else { y }
+    chunk
+        .iter()
+        .copied()
+        .reduce(|x, y| if x.at_least(&y) { x } else { y })
 }
 
+// The lower of two.
 fn lower<T: Ranked + Copy>(x: T, y: T) -> T
     ensures { result ≡ cond (T.reaches x y) y x }
 {
     if x.at_least(&y) { y } else { x }
 }
 
-// The highest of a chunk. That it is one of them is all that a threshold needs.
-fn highest<T: Ranked + Copy>(chunk: &[T]) -> T
-    requires { 0 < length chunk.now }
-    ensures { ContainsAt chunk.now result }
-{
-    let mut most = chunk[0];
-    for x in chunk {
-        most = higher(most, *x);
-    }
-    most
-}
-
-// The lowest of the highest of at least k chunks: at least k entries reach it. None where there are fewer entries, or k is 0.
+// The lowest of the highest of at least k chunks: at least k entries reach it. None where there are fewer entries, or k is 0. Tried by
+// `filter_map` and `reduce`: the proof did not close, since it does not learn that each chunk gives an entry of its own.
 fn threshold<T: Ranked + Copy>(entries: &[T], k: usize) -> Option<T>
     ensures { IfSome result (λ t. k ≤ count_at_least T.reaches t entries.now) }
 {
@@ -39,45 +34,30 @@ fn threshold<T: Ranked + Copy>(entries: &[T], k: usize) -> Option<T>
         return None;
     }
     let (first, others) = entries.split_at(size);
-    let mut least = highest(first);
+    let mut least = highest(first)?;
     for chunk in others.chunks_exact(size) {
-        least = lower(least, highest(chunk));
+        least = lower(least, highest(chunk)?);
     }
     Some(least)
 }
 
-// What is left of `entries` from the first that reaches `bar`, or from the last. Two at a time, which takes fewer steps.
-fn skip_below<T: Ranked + Copy>(entries: &[T], bar: T) -> &[T]
-    ensures { (gone : List T) × (entries.now ≡ gone ++ result.now) × AllByRecursion (λ y. T.reaches y bar ≡ false) gone }
+// Passes over entries that are not `wanted`. What is left begins with the first that is, or is one last entry that was not asked, or
+// nothing. The loop takes two at a time: by `position`, which takes one, a row takes 12 per cent longer.
+fn skip_to<T, F: Fn(&T) -> bool>(entries: &[T], wanted: F) -> &[T]
+    requires { F.IsAlwaysCallable wanted }
+    ensures { (gone : List T) × (entries.now ≡ gone ++ result.now) × AllByRecursion (λ y. FnReturnsAt F.Fn wanted y false) gone }
 {
     let mut rest = entries;
     while let [x, y, others @ ..] = rest {
-        if x.at_least(&bar) {
+        if wanted(x) {
             return rest;
         }
-        if y.at_least(&bar) {
+        if wanted(y) {
             return &rest[1..];
         }
         rest = others;
     }
     rest
-}
-
-// What is left of `entries` from the first that `lowest` does not reach, or from the last: ties are passed over.
-fn skip_to_above<T: Ranked + Copy>(entries: &[T], lowest: T) -> &[T]
-    ensures { (gone : List T) × (entries.now ≡ gone ++ result.now) × AllByRecursion (λ y. T.reaches lowest y ≡ true) gone }
-{
-    let mut left = entries;
-    while let [x, y, others @ ..] = left {
-        if !lowest.at_least(x) {
-            return left;
-        }
-        if !lowest.at_least(y) {
-            return &left[1..];
-        }
-        left = others;
-    }
-    left
 }
 
 // Where the first of `kept` stands that is below `item`.
@@ -87,7 +67,8 @@ fn first_below<T: Ranked + Copy>(kept: &[T], item: T) -> Option<usize>
     kept.iter().position(|y| !y.at_least(&item))
 }
 
-// Places that a caller lends, since no heap is used here; the first `filled` of them are in use.
+// Places that a caller lends, since no heap is used here; the first `filled` of them are in use. That the places stay the same, of the
+// same length, `put` and `of` have to say. Functions over the places alone would not, but each would ask that `filled` is within them.
 #[derive(Drop)]
 struct Keeper<'a, T> {
     places: &'a mut [T],
@@ -100,8 +81,8 @@ impl<'a, T: Ranked + Copy> Keeper<'a, T> {
     fn lowest(&self) -> Option<T>
         ensures { MatchOption result ((self.now.filled ≡ 0) ⊎ (self.now.filled < length self.now.places.now)) (λ l. (0 < self.now.filled) × (self.now.filled ≡ length self.now.places.now) × (l ≡ slice_index_or self.now.places.now (self.now.filled - 1) l)) }
     {
-        if 0 < self.filled && self.filled == self.places.len() {
-            Some(self.places[self.filled - 1])
+        if self.filled == self.places.len() {
+            self.places.last().copied()
         } else {
             None
         }
@@ -125,89 +106,37 @@ impl<'a, T: Ranked + Copy> Keeper<'a, T> {
         self.filled = end;
     }
 
-    // Keeps `item` too, if it is among the highest.
-    fn keep(&mut self, item: T)
-        ensures name { self.new.places.ghost_name ≡ self.old.places.ghost_name }
-        ensures len { length self.new.places.now ≡ length self.old.places.now }
-        ensures holds { (xs : List T) → Holds T.reaches xs self.old.filled self.old.places.now → Holds T.reaches (xs ++ item ∷ []) self.new.filled self.new.places.now }
+    // Passes over entries that change nothing of what is kept at the end: while a place is free, those that do not reach the threshold
+    // `bar`, and then those that are not above the lowest that is kept.
+    fn skip<'b>(&self, entries: &'b [T], bar: Option<T>) -> &'b [T]
+        ensures { (gone : List T) × (entries.now ≡ gone ++ result.now) × (IsSomeAnd bar (λ t. AllByRecursion (λ y. T.reaches y t ≡ false) gone) ⊎ ((xs : List T) → Holds T.reaches xs self.now.filled self.now.places.now → Holds T.reaches (xs ++ gone) self.now.filled self.now.places.now)) }
     {
-        if let Some(lowest) = self.lowest() {
-            if lowest.at_least(&item) {
-                return;
-            }
-        }
-        self.put(item);
-    }
-
-    // What is left of `entries` when some are passed over: where every place is in use, what is not above the lowest that is kept.
-    fn skip<'b>(&self, entries: &'b [T]) -> &'b [T]
-        ensures { (gone : List T) × (entries.now ≡ gone ++ result.now) × ((xs : List T) → Holds T.reaches xs self.now.filled self.now.places.now → Holds T.reaches (xs ++ gone) self.now.filled self.now.places.now) }
-    {
-        match self.lowest() {
-            Some(lowest) => skip_to_above(entries, lowest),
-            None => entries,
+        match (self.lowest(), bar) {
+            (Some(lowest), _) => skip_to(entries, |y| !lowest.at_least(y)),
+            (None, Some(bar)) => skip_to(entries, |y| y.at_least(&bar)),
+            (None, None) => entries,
         }
     }
 
-    // Keeps each of `entries` too, if it is among the highest.
-    fn keep_each(&mut self, entries: &[T])
-        ensures name { self.new.places.ghost_name ≡ self.old.places.ghost_name }
-        ensures len { length self.new.places.now ≡ length self.old.places.now }
-        ensures holds { (xs : List T) → Holds T.reaches xs self.old.filled self.old.places.now → Holds T.reaches (xs ++ entries.now) self.new.filled self.new.places.now }
-    {
-        let mut rest = entries;
-        while let [x, others @ ..] = self.skip(rest) {
-            self.keep(*x);
-            rest = others;
-        }
-    }
-
-    // Keeps each of `entries` in turn.
-    fn of_all(entries: &[T], places: &'a mut [T]) -> Keeper<'a, T>
-        ensures name { result.places.ghost_name ≡ places.entry.ghost_name }
-        ensures len { length result.places.now ≡ length places.entry.now }
-        ensures holds { Holds T.reaches entries.now result.filled result.places.now }
-    {
-        let mut keeper = Keeper { places, filled: 0 };
-        keeper.keep_each(entries);
-        keeper
-    }
-
-    // Keeps the highest of `entries`, of which as many as there are places reach `least`: what does not reach it is passed over until
-    // every place is in use.
-    fn of_reaching(entries: &[T], least: T, places: &'a mut [T]) -> Keeper<'a, T>
-        requires enough { length places.now ≤ count_at_least T.reaches least entries.now }
-        ensures name { result.places.ghost_name ≡ places.entry.ghost_name }
-        ensures len { length result.places.now ≡ length places.entry.now }
-        ensures holds { Holds T.reaches entries.now result.filled result.places.now }
-    {
-        let mut keeper = Keeper { places, filled: 0 };
-        let mut rest = entries;
-        while let [x, others @ ..] = skip_below(rest, least) {
-            keeper.keep(*x);
-            if keeper.lowest().is_some() {
-                keeper.keep_each(others);
-                return keeper;
-            }
-            rest = others;
-        }
-        keeper
-    }
-
-    // Keeps the highest of `entries`.
+    // Keeps the highest of `entries`. By a `for` over those that reach the threshold, each of which is asked once more, a row takes 18
+    // per cent longer.
     fn of(entries: &[T], places: &'a mut [T]) -> Keeper<'a, T>
         ensures name { result.places.ghost_name ≡ places.entry.ghost_name }
         ensures len { length result.places.now ≡ length places.entry.now }
         ensures holds { Holds T.reaches entries.now result.filled result.places.now }
     {
-        match threshold(entries, places.len()) {
-            Some(least) => Keeper::of_reaching(entries, least, places),
-            None => Keeper::of_all(entries, places),
+        let bar = threshold(entries, places.len());
+        let mut keeper = Keeper { places, filled: 0 };
+        let mut left = entries;
+        while let [x, others @ ..] = keeper.skip(left, bar) {
+            keeper.put(*x);
+            left = others;
         }
+        keeper
     }
 }
 
-// Keeps each of `entries` in turn. The answer is how many places are filled.
+// Keeps the highest of `entries`, as many as there are places. The answer is how many places are filled.
 pub fn keep_all<T: Ranked + Copy>(entries: &[T], places: &mut [T]) -> usize
     ensures { Holds T.reaches entries.now result places.new }
 {

@@ -14,7 +14,8 @@ pub trait Ranked {
     ghost orders: { Orders reaches };
 }
 
-// Losses, in paise.
+// Losses, in paise. Two impls of a line each, here and below: one for every `Ord` would put what `Ord` says in the place of the
+// definition of the order of losses, and the repository writes no impls by macro.
 impl Ranked for i64 {
     ghost reaches = { reaches_loss };
 
@@ -32,6 +33,6 @@ impl Ranked for i32 {
     ghost orders = { Prim.search rules };
 
     fn at_least(&self, other: &i32) -> bool {
-        *other <= *self
+        *self >= *other
     }
 }

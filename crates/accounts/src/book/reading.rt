@@ -22,14 +22,14 @@ impl HeldBook {
     }
 
     pub(crate) fn trades(&self) -> u8
-        ensures trades { result ≡ self.now.row.trades }
+        ensures value { result ≡ self.now.row.trades }
         ensures bound { result ≤ 64 }
     {
         self.row.trades
     }
 
     pub(crate) fn cash(&self) -> u64
-        ensures cash { result ≡ self.now.row.cash }
+        ensures value { result ≡ self.now.row.cash }
         ensures bound { result ≤ 100000000000000 }
     {
         self.row.cash
@@ -38,7 +38,7 @@ impl HeldBook {
     // The lots of a security.
     pub(crate) fn lots(&self, security: u32) -> u32
         requires { security < 32 }
-        ensures lots { result ≡ slice_index self.now.row.lots security }
+        ensures value { result ≡ slice_index self.now.row.lots security }
         ensures bound { result ≤ 1000000 }
     {
         self.row.lots[security as usize]

@@ -16,14 +16,14 @@ impl HeldBook {
     }
 
     pub fn row(&self) -> AccountRow
-        ensures row { result ≡ self.now.row }
+        ensures value { result ≡ self.now.row }
         ensures keeps { holdings_keep result ≡ true }
     {
         self.row
     }
 
     pub fn places(&self) -> [TradeRow; 64]
-        ensures places { result ≡ self.now.places }
+        ensures value { result ≡ self.now.places }
         ensures keeps { places_keep self.now.row.trades result ≡ true }
     {
         self.places

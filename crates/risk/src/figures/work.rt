@@ -5,21 +5,12 @@ ghost use Rattle.risk.specs.Losses.{AtRisk, OneAtRisk};
 ghost use Rattle.risk.specs.Initial.{risk_of};
 
 use super::super::initial::{minimum_margin, spread_charge, step_up};
+use super::super::losses::Scratch;
 use super::super::quotes::Quotes;
 use super::RiskFigures;
 use market::market::Market;
 use models::model::MarginModel;
 use tables::standing::StandingTrades;
-
-// The risk of no trades.
-const NO_RISK: RiskFigures = RiskFigures {
-    residuals: 0,
-    halfyears: 0,
-    whole: 0,
-    spread: 0,
-    minimum: 0,
-    initial: 0,
-};
 
 impl<'a, M: MarginModel> Quotes<'a, M> {
     #[tactic(auto, unfolding(crate::specs::Initial::risk_of))]
@@ -30,15 +21,11 @@ impl<'a, M: MarginModel> Quotes<'a, M> {
         ensures bound { result.initial ≤ 4800000000000 * length trades.entry.trades.now }
     {
         if trades.rows().is_empty() {
-            return NO_RISK;
+            return RiskFigures::default();
         }
-        let count = self.model.scenarios() as usize;
-        let mut changes = [0i32; 1000];
-        let mut losses = [0i64; 1000];
-        let changes = &mut changes[..count];
-        let losses = &mut losses[..count];
-        let whole = self.value_at_risk(trades, changes, losses);
-        let sums = self.sums(trades, whole, changes, losses);
+        let mut scratch = Scratch::new();
+        let whole = self.value_at_risk(trades, &mut scratch);
+        let sums = self.sums(trades, whole, &mut scratch);
         let spread = spread_charge(sums.residuals, sums.halfyears, whole);
         let minimum = minimum_margin(self.day, trades);
         RiskFigures {

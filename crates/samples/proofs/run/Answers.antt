@@ -1,10 +1,10 @@
 use Rattle.std.proofs.Common.{string_bytes}
-use Rattle.samples.proofs.Listed.{stepped, ends}
+use Rattle.samples.proofs.Listed.{prints_one, stepped, ends}
 use Rattle.samples.proofs.run.Goals as goal
 
 pub loop-name-preserved : goal.loop-name-preserved
 loop-name-preserved g c =
-    stepped string_bytes _ _ _ c.loop-name.invariant c.loop-name-test.true _ c.name-item.is _ c.in_ok-verdict.ensures
+    stepped string_bytes _ _ _ c.loop-name.invariant c.loop-name-test.true _ c.name-item.is _ (prints_one c.in_ok-verdict.verdict)
     _ _ c.as_str-in-loop-name.ensures.value c.in_ok-write_sample.ensures
 
 pub returns : goal.returns

@@ -52,7 +52,7 @@ impl Session {
 
     // Makes a call with the model in use.
     pub fn call(&mut self, call: Call) -> Reply
-        ensures reply { result ≡ (called (held self.old) call).reply }
+        ensures answer { result ≡ (called (held self.old) call).reply }
         ensures after { held self.new ≡ after_call (held self.old) call }
         ensures keeps { kept_tables (held self.new) ≡ kept_tables (held self.old) }
     {

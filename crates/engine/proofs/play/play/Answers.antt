@@ -13,7 +13,7 @@ returns g c =
     let p = c.replay.ensures in
     let o = c.open_house.new in
     let u = c.replay.new in
-    let yes' : first_no (opening_questions n c.args.month c.args.records.now c.args.trades.now) ≡ Ok tt = sym e.refused in
+    let yes' : first_no (opening_questions n c.args.month c.args.records.now c.args.trades.now) ≡ Ok tt = sym e.answer in
     let some : 1 ≤ n = (allowed n c.args.month c.args.records.now c.args.trades.now yes').some in (
       yes',
       p.accounts ∙ e.accounts,

@@ -37,7 +37,7 @@ loop-i-preserved g c =
       e.accounts ∙ c.loop-i.invariant.0,
       e.keeps,
       stands,
-      replies_more m s es i no_event lt t c.loop-i.answers c.play_event-said.result la c.loop-i.invariant.2 c.loop-i.invariant.3 e.replied,
+      replies_more m s es i no_event lt t c.loop-i.answers c.play_event-said.result la c.loop-i.invariant.2 c.loop-i.invariant.3 e.answer,
       rest_more c.loop-i.answers c.args.answers.now i c.play_event-said.result c.loop-i.invariant.4,
       up_to_more (λ (j : ℕ). HeldBy n (run m s (take j es))) i c.loop-i.invariant.5 (subst (HeldBy n) stands (held_by l n us vs c.args.house.now.some keeps)),
     )
@@ -64,7 +64,7 @@ returns g c =
     record {
       accounts = c.loop-i.invariant.0;
       count = omega (arith, c.min-count.ensures);
-      replied = subst (λ (xs : List Event). take n c.loop-i.answers ≡ replies m s xs) all (subst (λ (r : ℕ). take r c.loop-i.answers ≡ replies m s (take r es)) end c.loop-i.invariant.3);
+      answers = subst (λ (xs : List Event). take n c.loop-i.answers ≡ replies m s xs) all (subst (λ (r : ℕ). take r c.loop-i.answers ≡ replies m s (take r es)) end c.loop-i.invariant.3);
       rest = subst (λ (r : ℕ). drop r c.loop-i.answers ≡ drop r c.args.answers.now) end c.loop-i.invariant.4;
       stands = c.loop-i.invariant.2 ∙ ap (λ (r : ℕ). run m s (take r es)) end ∙ ap (run m s) all;
       keeps = ap (λ (n : ℕ). tables_keep n c.loop-i.records c.loop-i.trades) (sym c.loop-i.invariant.0) ∙ c.loop-i.invariant.1;

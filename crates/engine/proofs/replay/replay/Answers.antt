@@ -47,13 +47,13 @@ returns g c =
       accounts = e.accounts;
       replays = record {
         played = e.count ∙ sym (cond-true (tables_keep n rs ts) (min (length c.args.events.now) (length c.args.answers.now)) 0 h);
-        replied = e.replied;
+        replied = e.answers;
         rest = e.rest;
         stands = e.stands;
         tables = λ _. (sym (rows_stand l n us vs some e.keeps) ∙ ap rows_of e.stands, sym (trades_stand l n us vs some e.keeps) ∙ ap trades_of e.stands);
         wrong = λ no'. absurd (true≢false (sym h ∙ no'));
         keeps = e.keeps ∙ sym h;
         throughout = λ _. e.throughout;
-        isolated = isolated_run m s (take r c.args.events.now) (take r c.play_events.new.answers) (standing l us vs) e.replied e.stands;
+        isolated = isolated_run m s (take r c.args.events.now) (take r c.play_events.new.answers) (standing l us vs) e.answers e.stands;
       };
     }

@@ -35,8 +35,8 @@ loop-i-preserved g c =
     let f : Book → Book = settled m k 0 in
     let h' = c.settled.result in
     let q = c.row.result in
-    let er₀ : q ≡ h'.row = c.row.ensures.row in
-    let w = c.settled.ensures.within in
+    let er₀ : q ≡ h'.row = c.row.ensures.value in
+    let w = c.settled.ensures.bound in
     let value : q ≡ settled_row m k 0 r (take r.trades ps) =
     er₀ ∙ ap (λ (b : Book). b.row) c.settled.ensures.value ∙ ap₂ (λ (x : ℕ) (b : Book). (settled m k x b).row) c.none.ensures c.read_book-held.ensures in
     let er = ap (set rs i) value in

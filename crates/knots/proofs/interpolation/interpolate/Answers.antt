@@ -1,5 +1,4 @@
-use Rattle.std.proofs.Common.{arith}
-use Rattle.knots.proofs.Casts.{scaled_most, sum_is}
+use Rattle.knots.proofs.Casts.{sum_is}
 use Rattle.knots.proofs.interpolation.interpolate.Goals as goal
 
 pub overflow_add-result : goal.overflow_add-result

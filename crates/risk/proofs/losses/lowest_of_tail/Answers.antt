@@ -1,10 +1,14 @@
-use Rattle.std.proofs.Common.{length, ◌∙◌, w64}
-use Rattle.std.proofs.lemmas.Int.{to_z-of_z}
-use Rattle.risk.proofs.Risks.{kth_or_nil}
+use Rattle.std.proofs.Common.{◌≡◌, length, get_or, ◌-◌, ap, ◌∙◌, arith}
+use Rattle.std.proofs.lemmas.List.{length-take-le}
+use Rattle.tail.specs.Tail.{ranked}
+use Rattle.risk.specs.Losses.{tail_size}
+use Rattle.risk.proofs.Risks.{kth_or}
 use Rattle.risk.proofs.losses.lowest_of_tail.Goals as goal
 
 pub returns : goal.returns
-returns c =
-    to_z-of_z w64 c.unwrap_or.result (record { sfits = c.unwrap_or.type_inv })
-    ∙ c.unwrap_or.ensures
-    ∙ kth_or_nil c.args.losses.now (length c.args.places.now) c.kth_highest.result c.requires c.kth_highest.ensures.value
+returns g c none =
+    let xs = c.args.entries.now in
+    let size = length-take-le c.max-size.result c.args.places.now (omega (arith, c.max-size.ensures, c.requires, c.told-places)) in
+    let tail : c.max-size.result ≡ tail_size (length xs) = omega (arith, c.max-size.ensures) in
+    kth_or g.T.Ranked.reaches xs _ none c.kth_highest.result (omega (arith, size, c.max-size.ensures)) c.kth_highest.ensures.value
+    ∙ ap (λ n. get_or (ranked g.T.Ranked.reaches xs) (n - 1) none) (size ∙ tail)

@@ -1,7 +1,8 @@
 use Rattle.std.proofs.Common.{ℕ, List, [], ◌++◌, ap, ap₂, ◌∙◌}
 use Rattle.margins.specs.Figures.{figures_of}
 use Rattle.margins.specs.declared.figures.Figures.{Figures}
-use Rattle.statement.specs.Printing.{model_line, line, figures_text}
+use Rattle.scan.specs.Texts.{line}
+use Rattle.statement.specs.Printing.{model_line, figures_text}
 use Rattle.statement.proofs.report.statement_of.Goals as goal
 
 pub returns : goal.returns

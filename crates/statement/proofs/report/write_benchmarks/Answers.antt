@@ -1,7 +1,8 @@
 use Rattle.std.proofs.Common.{[], ◌∷◌, ◌++◌, string_bytes}
 use Rattle.std.specs.Prelude.{codes}
 use Rattle.margins.specs.Printing.{benchmark_text}
-use Rattle.statement.specs.Printing.{line, benchmark_heading}
+use Rattle.scan.specs.Texts.{line}
+use Rattle.statement.specs.Printing.{benchmark_heading}
 use Rattle.statement.proofs.Appended.{and_then}
 use Rattle.statement.proofs.report.write_benchmarks.Goals as goal
 

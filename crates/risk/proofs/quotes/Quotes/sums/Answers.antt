@@ -1,28 +1,23 @@
-use Rattle.std.proofs.Common.{get_or, inl, sym, ◌∙◌, arith}
-use Rattle.std.proofs.lemmas.List.{get_or-replicate}
-use Rattle.tables.specs.Limits.{no_trade}
+use Rattle.std.proofs.Common.{sym, ◌∙◌}
 use Rattle.risk.specs.declared.grouping.Grouping.TheVariants.{ByResidual, ByHalfYear}
-use Rattle.risk.proofs.Alones.{first_low, lone_grouped}
-use Rattle.risk.proofs.Apart.{standing}
-use Rattle.risk.proofs.Risks.{var_most}
+use Rattle.risk.specs.Groups.{LoneTrade}
+use Rattle.risk.proofs.Alones.{some_has, lone_of, nothing_if}
 use Rattle.risk.proofs.quotes.Quotes.sums.Goals as goal
 
-pub returns-then-is_lone-clause-residuals : goal.returns-then-is_lone-clause-residuals
-returns-then-is_lone-clause-residuals g c =
+pub returns-then-is_some-clause-residuals : goal.returns-then-is_some-clause-residuals
+returns-then-is_some-clause-residuals g c =
+    let day = c.args.self.now.day in
     let ts = c.args.trades.trades.now in
-    c.requires.whole ∙ lone_grouped (g.M.MarginModel.meaning c.args.self.now.model.now) c.args.self.now.day ByResidual (get_or ts 0 no_trade) ts (sym c.if-is_lone.ensures) (first_low ts c.args.trades.stand)
+    let one = some_has c.lone_trade.result (λ first. LoneTrade day first.now ts) (sym c.is_some.ensures ∙ c.if-is_some.true) c.lone_trade.ensures in
+    c.requires ∙ lone_of (g.M.MarginModel.meaning c.args.self.now.model.now) day ByResidual one.0.now ts c.args.trades.stand one.1
 
-pub returns-then-is_lone-clause-halfyears : goal.returns-then-is_lone-clause-halfyears
-returns-then-is_lone-clause-halfyears g c =
+pub returns-then-is_some-clause-halfyears : goal.returns-then-is_some-clause-halfyears
+returns-then-is_some-clause-halfyears g c =
+    let day = c.args.self.now.day in
     let ts = c.args.trades.trades.now in
-    c.requires.whole ∙ lone_grouped (g.M.MarginModel.meaning c.args.self.now.model.now) c.args.self.now.day ByHalfYear (get_or ts 0 no_trade) ts (sym c.if-is_lone.ensures) (first_low ts c.args.trades.stand)
-
-pub returns-then-is_lone-clause-bounds : goal.returns-then-is_lone-clause-bounds
-returns-then-is_lone-clause-bounds g c =
-    let ts = c.args.trades.trades.now in
-    let most = var_most (g.M.MarginModel.meaning c.args.self.now.model.now) c.args.self.now.day ts (g.M.MarginModel.lawful c.args.self.now.model.now) (standing ts c.args.trades.stand).each in
-    (omega (arith, c.requires.whole, most), omega (arith, c.requires.whole, most))
+    let one = some_has c.lone_trade.result (λ first. LoneTrade day first.now ts) (sym c.is_some.ensures ∙ c.if-is_some.true) c.lone_trade.ensures in
+    c.requires ∙ lone_of (g.M.MarginModel.meaning c.args.self.now.model.now) day ByHalfYear one.0.now ts c.args.trades.stand one.1
 
 pub group_risks-residuals-requires-clause-residuals :
     goal.group_risks-residuals-requires-clause-residuals
-group_risks-residuals-requires-clause-residuals g c = λ k lt. inl (get_or-replicate 121 k 0 0 lt)
+group_risks-residuals-requires-clause-residuals g c = λ k. nothing_if 121 k _

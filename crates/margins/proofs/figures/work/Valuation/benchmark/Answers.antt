@@ -1,7 +1,6 @@
 use Rattle.std.proofs.Common.{length, nat_abs, ap, ◌∙◌, arith, w64}
 use Rattle.std.proofs.lemmas.Int.{to_z-of_z}
 use Rattle.risk.specs.Signs.{lost_of}
-use Rattle.risk.proofs.Apart.{standing}
 use Rattle.risk.proofs.Signs.{lost_le}
 use Rattle.margins.proofs.Bounds.{gross_most}
 use Rattle.margins.proofs.figures.work.Valuation.benchmark.Goals as goal
