@@ -569,9 +569,10 @@ risk/Trade::times: 6.1 loss
 risk/Trade::new: 6.1 loss
 risk/net_of: 6.1 loss
 risk/are_alike: 6.3 groups
+risk/lone_trade: 6.3 groups
 risk/lone_risk: 6.3 groups
 risk/Quotes::sums: 6.3 groups
-risk/Quotes::turned_changes: 6.1 loss
+risk/Quotes::signed_changes: 6.1 loss
 risk/gain: 6.2 VaR, 6.7 credit
 risk/lost: 6.7 loss
 risk/gather: 6.3 groups
@@ -581,7 +582,7 @@ risk/Quotes::sum_group_risks: 6.3 groups
 risk/Quotes::group_risk: 6.3 groups
 risk/Quotes::work_out: 6.5 base
 risk/Quotes::add_legs: 6.1 loss
-risk/Quotes::fill_losses: 6.1 loss
+risk/Quotes::summed_risk: 6.1 loss
 risk/Quotes::value_at_risk: 6.2 k
 risk/lowest_of_tail: 6.2 VaR
 risk/Quotes::*: 5.1 asked
