@@ -45,12 +45,26 @@ pub fn settle<M: MarginModel>(
 }
 
 impl HeldBook {
-    // A book as it settles, at a cover: none for a constituent.
-    pub fn settled<M: MarginModel>(self, model: &M, market: &Market, cover: Cover) -> HeldBook
-        ensures value { book_in result ≡ settled (M.meaning model.now) market.now.state cover.paise (book_in self) }
+    // The record as it settles, at a cover: none for a constituent.
+    pub fn settled_row<M: MarginModel>(
+        &self,
+        model: &M,
+        market: &Market,
+        cover: Cover,
+    ) -> AccountRow
+        ensures value { result ≡ (settled (M.meaning model.now) market.now.state cover.paise (book_in self.now)).row }
+        ensures keeps { holdings_keep result ≡ true }
+        ensures bound { Within cover.paise result }
+    {
+        settle(model, market, cover, &self.account(), self.standing())
+    }
+
+    // The book as it settles.
+    pub fn settled<M: MarginModel>(&self, model: &M, market: &Market, cover: Cover) -> HeldBook
+        ensures value { book_in result ≡ settled (M.meaning model.now) market.now.state cover.paise (book_in self.now) }
         ensures bound { Within cover.paise result.row }
     {
-        let row = settle(model, market, cover, &self.account(), self.standing());
+        let row = self.settled_row(model, market, cover);
         HeldBook::new(row, self.places())
     }
 }

@@ -37,7 +37,7 @@ module _ (m : Meaning) (k : MarketState) (n : ℕ) (rs : List AccountRow) (ts : 
   by_tables false not = refl
 
   engine_left : (l : MarketState) (us : List AccountRow) (vs : List TradeRow) (a : MarketAnswer) → AnswersCall m k l n rs us ts vs (Market c) (MarketReply a) → a.number ≢ 0 → l ≡ k
-  engine_left l us vs a p not = p.market ∙ by_tables (tables_keep n rs ts) (λ e. not (ap reply_number p.reply_is ∙ e))
+  engine_left l us vs a p not = p.market ∙ by_tables (tables_keep n rs ts) (λ e. not (ap reply_number p.replied ∙ e))
 
 pub market_left : (m : Meaning) (k l : MarketState) (n : ℕ) (rs us : List CAccount) (ts vs : List TradeRow) (c : MarketCall) (a : MarketAnswer) → RowsAnswered m k l n rs us ts vs (Market c) (MarketReply a) → a.number ≢ 0 → l ≡ k
 market_left m k l n rs us ts vs c a p not =

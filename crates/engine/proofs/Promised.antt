@@ -22,7 +22,7 @@ use Rattle.engine.proofs.Refused.{account_refused, market_refused}
 module _ (m : Meaning) (k : MarketState) (n : ℕ) (some : 1 ≤ n) (rs us : List AccountRow) (ts vs : List TradeRow) where
   pub account_promised : (c : NamedCall) (a : Answer) → Answered m k n rs us ts vs c.account c.call a → AnswersCall m k k n rs us ts vs (Account c) (AccountReply a)
   account_promised c a p = record {
-    reply_is = ap AccountReply p.answer;
+    replied = ap AccountReply p.answer;
     market = refl;
     rows = p.rows;
     trades = p.trades;
@@ -41,7 +41,7 @@ module _ (m : Meaning) (k : MarketState) (n : ℕ) (some : 1 ≤ n) (rs us : Lis
 
   pub market_promised : (l : MarketState) (c : MarketCall) (a : MarketAnswer) → MarketAnswered m k l n rs us ts vs c a → AnswersCall m k l n rs us ts vs (Market c) (MarketReply a)
   market_promised l c a p = record {
-    reply_is = ap MarketReply p.answer;
+    replied = ap MarketReply p.answer;
     market = p.market;
     rows = p.rows;
     trades = p.trades;

@@ -33,7 +33,7 @@ OthersOf m k n rs us ts vs (Market c) a = Unit {0}
 -- n accounts; market k, records rs and places ts before, l, us and vs after; the call c was answered a
 pub record AnswersCall (m : Meaning) (k l : MarketState) (n : ℕ) (rs us : List AccountRow) (ts vs : List TradeRow) (c : Call) (a : Reply) : Type 0 where
   -- the reply, the market and both whole tables are what the rules make of the call
-  pub reply_is : a ≡ (outcome m k n rs ts c).reply
+  pub replied : a ≡ (outcome m k n rs ts c).reply
   pub market : l ≡ (outcome m k n rs ts c).market
   pub rows : us ≡ (outcome m k n rs ts c).rows
   pub trades : vs ≡ (outcome m k n rs ts c).trades

@@ -44,7 +44,7 @@ fn play_events<M: MarginModel>(
 ) -> usize
     requires { tables_keep house.old.accounts records.old trades.old ≡ true }
     ensures accounts { house.new.accounts ≡ house.old.accounts }
-    ensures count { result ≡ min (length events.now) (length answers.old) }
+    ensures value { result ≡ min (length events.now) (length answers.old) }
     ensures answers { take result answers.new ≡ replies (M.meaning model.now) (standing house.old.market.state records.old trades.old) (take result events.now) }
     ensures rest { drop result answers.new ≡ drop result answers.old }
     ensures stands { standing house.new.market.state records.new trades.new ≡ run (M.meaning model.now) (standing house.old.market.state records.old trades.old) (take result events.now) }

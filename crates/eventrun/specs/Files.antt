@@ -1,14 +1,16 @@
 -- An event file played on a house of its own.
--- opening_number: the number of an opening whose tables have the right lengths. It is that of `opening_result` of crate `session`, on which this crate does not stand.
--- opening_in: the number of the opening of a file, if there is one. tables_after: the tables that an accepted opening and the calls after it leave. answers_in: the answers to the records after an accepted opening. answer_in: the answer in a reply.
--- IsolatedFile: the isolation of the run. Plays: the number and the answers of played records, and their isolation. IsFileRun: what the run of a file holds: its records, its fault and its answers.
+-- opening_number: the number of an opening that brings its own tables. opening_in: of the opening of a file, if there is one.
+-- tables_after: the tables that an accepted opening and the calls after it leave.
+-- answers_after: the answers to the records after an opening; none after a refused one. answers_in: to those of a file. answer_in: the answer in a reply.
+-- IsolatedFile: the isolation of the run. Plays: the number and the answers of played records, and their isolation.
+-- IsFileRun: what the run of a file holds: its records, its fault and its answers.
 use Rattle.std.specs.Prelude.{◌≡◌, ℕ, if◌then◌else◌, List, [], ◌∷◌, map, Some, None, vec_items, Option, ◌==◌}
 use Rattle.models.specs.Meaning.{Meaning}
 use Rattle.events.specs.Files.{events_of, fault_of}
 use Rattle.events.specs.declared.event.Event.{Event}
 use Rattle.events.specs.declared.event.Event.TheVariants.{Open, Trade, LodgeCash, DrawCash}
-use Rattle.rules.specs.Opening.{opening_questions, opened_market, opened_rows, opened_trades}
-use Rattle.refusals.specs.Refusals.{first_no, result_number}
+use Rattle.rules.specs.Opening.{opening_result, opened_market, opened_rows, opened_trades}
+use Rattle.refusals.specs.Refusals.{result_number}
 use Rattle.rules.specs.Runs.{Lent, lent_run, answers_run}
 use Rattle.rules.specs.declared.call.Answer.{Answer}
 use Rattle.rules.specs.declared.call.NamedCall.{NamedCall}
@@ -22,7 +24,7 @@ use Rattle.eventrun.specs.declared.play.FileRun.{FileRun}
 use Rattle.eventrun.specs.declared.play.Played.{Played}
 
 abbrev pub opening_number : ℕ → ℕ → ℕ
-opening_number n month = result_number (first_no (opening_questions n month (opened_rows n) (opened_trades n)))
+opening_number n month = result_number (opening_result n month)
 
 abbrev pub opening_in : List Event → Option ℕ
 opening_in [] = None

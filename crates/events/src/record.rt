@@ -9,7 +9,7 @@ use super::numbers::bytes_at;
 // The event of the record of a kind that the bytes begin with.
 pub(crate) fn decode(bytes: &[u8], kind: Kind) -> Event
     requires { length_of kind ≤ length bytes.now }
-    ensures event { result ≡ event_at bytes.now 0 kind }
+    ensures value { result ≡ event_at bytes.now 0 kind }
     ensures kind { event_kind result ≡ kind }
 {
     match kind {

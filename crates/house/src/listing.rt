@@ -20,7 +20,7 @@ pub fn answer_all<M: MarginModel>(
     calls: &[NamedCall],
     answers: &mut [Answer],
 ) -> usize
-    ensures count { result ≡ min (length calls.now) (length answers.old) }
+    ensures value { result ≡ min (length calls.now) (length answers.old) }
     ensures answers { take result answers.new ≡ answers_run (M.meaning model.now) house.now.market.state house.now.accounts (records.old, trades.old) (take result calls.now) }
     ensures rest { drop result answers.new ≡ drop result answers.old }
     ensures rows { records.new ≡ (lent_run (M.meaning model.now) house.now.market.state house.now.accounts (records.old, trades.old) (take result calls.now)).0 }

@@ -10,7 +10,7 @@ use tables::row::{AccountRow, NO_TRADE, TradeRow};
 // Moves the trades that go on to the front, in order. Gives how many they are. One index reads ahead of the one that writes, in
 // one slice: `retain` wants a `Vec`, and no heap is used here.
 fn keep_running(trades: &mut [TradeRow], month: u16) -> usize
-    ensures front { take result trades.new ≡ filter (running month) trades.old }
+    ensures trades { take result trades.new ≡ filter (running month) trades.old }
     ensures bound { result ≤ length trades.old }
     ensures len { length trades.new ≡ length trades.old }
 {
@@ -38,7 +38,7 @@ fn clear_from(places: &mut [TradeRow], at: usize)
 fn mature_places(places: &mut [TradeRow], count: u8, month: u16) -> u8
     requires { (length places.old ≡ 64) × (count ≤ 64) }
     ensures places { places.new ≡ closed_up (filter (running month) (take count places.old)) }
-    ensures count { result ≡ length (filter (running month) (take count places.old)) }
+    ensures value { result ≡ length (filter (running month) (take count places.old)) }
 {
     let left = keep_running(&mut places[0..count as usize], month);
     clear_from(places, left);

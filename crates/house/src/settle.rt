@@ -64,15 +64,15 @@ fn settle_own<M: MarginModel>(
     model: &M,
     market: &Market,
     cover: Cover,
-    held: HeldBook,
+    held: &HeldBook,
 ) -> AccountRow
-    ensures value { result ≡ (house_settled (M.meaning model.now) market.now.state cover.paise (book_in held)).row }
+    ensures value { result ≡ (house_settled (M.meaning model.now) market.now.state cover.paise (book_in held.now)).row }
     ensures keeps { holdings_keep result ≡ true }
     ensures figures { figures_keep 96000000000000000 result ≡ true }
 {
     AccountRow {
         second: false,
-        ..held.settled(model, market, cover).row()
+        ..held.settled_row(model, market, cover)
     }
 }
 
@@ -90,7 +90,7 @@ pub(crate) fn finish_settling<M: MarginModel>(
 {
     let cover = stored_cover(house, records, trades);
     let held = read_book(house, records, trades, 0);
-    let own = settle_own(model, &house.market, cover, held);
+    let own = settle_own(model, &house.market, cover, &held);
     records[0] = own;
     second_flags(own.own, &mut records[1..]);
 }
@@ -109,6 +109,6 @@ pub(crate) fn settle_constituents<M: MarginModel>(
     // By the account's number: `read_book` takes an account's record and places out of both tables.
     for i in 1..records.len() {
         let held = read_book(house, records, trades, i);
-        records[i] = held.settled(model, &house.market, Cover::none()).row();
+        records[i] = held.settled_row(model, &house.market, Cover::none());
     }
 }

@@ -4,7 +4,7 @@
 -- restriction_of_house: that figure for a constituent. constituent_view, house_view: the views of a constituent and of the house.
 -- names, concerns: a call names an account or all; an event concerns the account that its call names, and a market call concerns all.
 -- Told, told, trace: what a holder is told, of an event and of a list: the events that concern it, each with the figure after it; and between
--- them each change of the figure. constituent_trace, house_trace: of a constituent and of the house.
+-- them each change of the figure. called, turned: an event that concerns it, and a change of the figure. constituent_trace, house_trace: of a constituent and of the house.
 -- observed: the answer to each event that concerns a holder, with the holder's record and places after it.
 -- own_replies: of the answers to a list of events, those to the events that concern a holder.
 use Rattle.std.specs.Prelude.{ℕ, suc, Bool, true, if◌then◌else◌, List, [], ◌∷◌, ◌++◌, ◌==◌, nat_eq, slice_index_or}

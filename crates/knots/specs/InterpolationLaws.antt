@@ -1,7 +1,9 @@
 -- A value between two knots lies between theirs. Assumes nothing.
 --   size_neg, size_times       how far from 0 a negated number is, and a multiple
 --   Toward, part_toward        a part of a difference lies between 0 and the difference
---   interpolated_most, interpolated_above   so much of the way from low to high is as far from 0 as theirs at most, and not negative if they are not
+--   up_part, down_less, down_part   the same of a difference up, and of one down
+--   toward_most, toward_above, interpolated_most, interpolated_above   so much of the way from low to high is as far from 0 as theirs at most, and not negative if they are not
+--   by_place                   what is so at a low knot, and between two, is so of the value
 --   value_most, value_above    the same of a value between two knots
 --   product_most, thousandth_most   how far from 0 a shock times a tick value is, and a thousandth of that
 use Rattle.std.specs.Prelude.{◌≡◌, ℕ, zero, suc, ◌-◌, ◌*◌, ◌/◌, ◌<◌, ◌≤◌, Bool, true, false, cond, ℤ, pos, negsuc, ◌+ℤ◌, ◌-ℤ◌, ◌*ℤ◌, neg_ℤ, ◌≤ℤ◌, ◌==◌, unsigned_abs, refl}

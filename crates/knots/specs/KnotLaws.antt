@@ -1,6 +1,12 @@
 -- The meaning of tables at the knots keeps the law of interpolation. Assumes nothing.
+--   toward_between   a value on the way from low to high is between them
 --   found          the value of a residual by the finder's two places
+--   found_on       at a knot it is the number there
+--   found_between  between two knots it is interpolated
+--   found_inside   and lies between theirs
 --   interpolates   values that are the finder's keep the law
+--   is_within      a set, benchmark and residual in range are within the model
+--   read           a rate or tick value within the model is the one between the knots
 --   by_knots       the meaning of the tables keeps it
 use Rattle.std.proofs.Common.{◌≡◌, ℕ, ◌+◌, ◌-◌, ◌<◌, ◌≤◌, true, cond, List, ℤ, pos, negsuc, ◌+ℤ◌, ◌-ℤ◌, ◌*ℤ◌, sym, refl, ap, ◌∙◌, subst, inl, inr, arith, lt-ltb, eq-eqb, ne_eqb}
 use Rattle.std.proofs.lemmas.Int.{ints}

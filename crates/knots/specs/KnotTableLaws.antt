@@ -1,5 +1,7 @@
 -- Sound tables at the knots are a lawful model. Assumes nothing.
+--   few                       a residual within the model is at most 120
 --   number_most, shock_most   no number between knots is further from 0 than those at the knots may be
+--   above_same                a number that is not negative is its own size
 --   number_exact              a rate or tick value between knots is not negative
 --   knot_table_lawful         the meaning of sound tables is lawful
 use Rattle.std.specs.Prelude.{◌≡◌, ℕ, ◌+◌, ◌*◌, ◌≤◌, true, ◌&&◌, List, ℤ, pos, ◌≤ℤ◌, nat_lt, slice_index, slice_index_or, unsigned_abs}

@@ -5,6 +5,7 @@
 --   low_place, high_place  the places that the knot finder answers
 --   Last                   the last place whose knot is not past a residual
 --   climb_last, low_last   the finder's low place is that place
+--   below_top, last_next   a residual past that knot has a knot after it, and stands between the two
 --   neighbours_are         the finder's places are those of the knots next to a residual
 use Rattle.std.specs.Prelude.{◌≡◌, ℕ, zero, suc, ◌+◌, ◌<◌, ◌≤◌, Bool, true, false, cond, ◌⊎◌, List, [], ◌∷◌, ◌==◌, nat_le, slice_index, refl}
 use Rattle.std.proofs.Common.{ap, inl, inr, arith, leb-true, leb-false, eqb-true}

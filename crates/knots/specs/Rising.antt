@@ -1,6 +1,9 @@
 -- The knots rise, and so the finder answers one place. Assumes nothing.
+--   rises, step_up         so many knots are each below the next; all are
+--   ap_le                  the same knot is no smaller
 --   climbs                 a later knot is no smaller
 --   knot_most              no knot is past 120
+--   not_below              of two such places none is below the other
 --   one_last               a residual has one last place whose knot is not past it
 --   on_low, between_low    that place of a knot, and of a residual between two
 use Rattle.std.proofs.Common.{◌≡◌, ℕ, zero, suc, ◌+◌, ◌<◌, ◌≤◌, Bool, true, ◌&&◌, ltb, refl, ap, subst, ⊎_elim, arith}

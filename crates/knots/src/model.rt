@@ -62,7 +62,14 @@ impl Layout for KnotLayout {
         change_of(tick, moved)
     }
 
-    fn changes(numbers: Numbers<'_>, set: u32, benchmark: u32, residual: u32, room: &mut [i32]) {
+    // They lie in no table: they are worked out.
+    fn changes<'a>(
+        numbers: Numbers<'a>,
+        set: u32,
+        benchmark: u32,
+        residual: u32,
+        room: &mut [i32],
+    ) -> Option<&'a [i32]> {
         let tick = Self::number(numbers.ticks, set, benchmark, residual);
         changes(
             numbers.changes,
@@ -72,5 +79,6 @@ impl Layout for KnotLayout {
             residual,
             room,
         );
+        None
     }
 }

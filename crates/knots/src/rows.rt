@@ -23,8 +23,8 @@ pub(crate) fn number(numbers: &[u32], row: usize, residual: u32) -> u32
 // A residual's shock, in a row of one shock for each knot and scenario.
 pub(crate) fn shock(shocks: &[i32], row: usize, runs: usize, scenario: usize, residual: u32) -> i32
     requires within { (row + 12) * runs ≤ length shocks.now }
-    requires inner { (row ≤ 1000) × (runs ≤ 1000) }
-    requires least { (scenario < runs) × (residual ≤ 120) }
+    requires row { (row ≤ 1000) × (runs ≤ 1000) }
+    requires scenario { (scenario < runs) × (residual ≤ 120) }
     requires sizes { (k : ℕ) → unsigned_abs (slice_index_or shocks.now k (pos 0)) ≤ 20000 }
     ensures { result ≡ shock_at shocks.now row runs scenario residual }
 {
@@ -45,9 +45,9 @@ pub(crate) fn changes(
     room: &mut [i32],
 )
     requires within { (row + 12) * runs ≤ length shocks.now }
-    requires inner { (row ≤ 1000) × (runs ≤ 1000) }
-    requires least { (length room.old ≤ runs) × (residual ≤ 120) }
-    requires few { tick ≤ 100000 }
+    requires row { (row ≤ 1000) × (runs ≤ 1000) }
+    requires scenario { (length room.old ≤ runs) × (residual ≤ 120) }
+    requires tick { tick ≤ 100000 }
     requires sizes { (k : ℕ) → unsigned_abs (slice_index_or shocks.now k (pos 0)) ≤ 20000 }
     ensures { (j : ℕ) → j < length room.old → slice_index_or room.new j (pos 0) ≡ floor (pos tick *ℤ shock_at shocks.now row runs j residual) 1000 }
 {

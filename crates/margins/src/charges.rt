@@ -40,7 +40,7 @@ pub fn next_levels(averages: Option<Averages>, levels: Levels, initial: u64, gro
 }
 
 // What a level charges, in per cent.
-fn percent_of_level(level: u8) -> u128
+fn percent_of_level(level: u8) -> u64
     ensures value { result ≡ level_percent level }
     ensures bound { result ≤ 20 }
 {
@@ -53,19 +53,21 @@ fn percent_of_level(level: u8) -> u128
 
 // What the higher of two levels charges. This share, the one of `volatility_margin` and the one of the step-up are each one
 // `div_ceil`: a function of amount, part and whole for them would be longer than what it stands for.
-pub fn concentration_charge(initial: u64, levels: Levels) -> u64
+pub(crate) fn concentration_charge(initial: u64, levels: Levels) -> u64
+    requires { initial ≤ 1000000000000000 }
     ensures value { result ≡ concentration_of initial levels }
     ensures bound { result ≤ initial }
 {
     let percent = percent_of_level(levels.initial.max(levels.gross));
-    (initial as u128 * percent).div_ceil(100) as u64
+    (initial * percent).div_ceil(100)
 }
 
 // The volatility margin, at a per cent in tenths.
 pub(crate) fn volatility_margin(initial: u64, tenths: u32) -> u64
-    requires { tenths ≤ 1000 }
+    requires initial { initial ≤ 1000000000000000 }
+    requires tenths { tenths ≤ 1000 }
     ensures value { result ≡ volatility_of initial tenths }
     ensures bound { result ≤ initial }
 {
-    (initial as u128 * tenths as u128).div_ceil(1000) as u64
+    (initial * tenths as u64).div_ceil(1000)
 }

@@ -5,6 +5,7 @@
 --   meaning_of    the meaning of three tables, the last of them changes or shocks
 --   SoundOf       the tables make such a model
 --   RefusedOf     they make none, for this reason
+--   is_some       whether a word named a kind
 --   fits          whether a word may stand after the numbers of a model: a name, or none at the end
 use Rattle.std.specs.Prelude.{ℕ, Bool, true, false, ◌||◌, List, length, Some, None, codes, Option, ◌==◌, if◌then◌else◌}
 use Rattle.std.specs.Str.{bytes_eq}

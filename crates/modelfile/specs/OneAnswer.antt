@@ -1,6 +1,12 @@
 -- A text gives one answer and no other. Assumes nothing.
+--   first_least, first_one   tables have one first place out of range
 --   refused_one    tables are refused for one reason
 --   sound_passes   and for none where they make a model
+--   makes_one      a part makes one model
+--   ends_one       and ends with one answer
+--   makes_or_ends  and does not do both
+--   then_one       a part and what is asked next of it give one answer
+--   second_one, by_one   so do a second model, and a text with or without the word `joined`
 --   gives_one      two answers of one text are the same
 use Rattle.std.specs.Prelude.{◌≡◌, ℕ, ◌≤◌, Bool, true, false, List, codes, refl}
 use Rattle.std.proofs.Common.{ap, sym, subst, ◌∙◌, ⊎_elim, arith}

@@ -1,9 +1,19 @@
 -- What a text says of one model. Assumes nothing.
---   Answer        what a text gives: a model's meaning, a refusal of its numbers, or it is no model's text
---   Part          what its words and numbers are for one model: they stop with an answer, or there are
---                 numbers of a kind of model and the text after them
+--   Answer        what a text gives: it `means` a model's meaning, its numbers are `refused`, or it is no model's
+--                 text: `malformed`
+--   Part          what its words and numbers are for one model: `stopped` with an answer, or the `numbers` of a
+--                 kind of model and the text after them
 --   counts_fit    whether a model may have so many sets and scenarios: the test of the fact `Counts` of crate `models`,
 --                 since a part is worked out by a test and no fact decides between two
+--   followed, followed_by   a part, unless one number more comes after it (a wrong length) or a word that is no name
+--                 (malformed); by that word, and by the text after it
+--   tables_of     the three tables in the numbers that stand first: rates and tick values of one size, changes of
+--                 another, fewer where the text has fewer
+--   tables_after  those of a kind of model with so many sets and scenarios
+--   sized         the same, if the counts fit
+--   counted       the same, if both counts are there
+--   count_of      the first word of a text as a count, if it is a number
+--   named_part    the part after a name: two counts, and the tables
 --   part_of       the part that stands first in a text: a name, two counts, and the numbers of three tables
 --   Makes         the numbers of a part make a model of this meaning, with this text after it
 --   EndsWith      a part ends with this answer: it stopped with it, or its numbers are refused with it

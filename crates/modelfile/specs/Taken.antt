@@ -1,4 +1,5 @@
 -- The numbers that stand first in a text, and how they are held. Assumes nothing.
+--   taken_by    a number put before those after it; none where the word is no number
 --   taken       the numbers that stand first, at most so many
 --   left        what follows them
 --   as_size     a number as a rate, a tick value or a count is held; one that does not fit is held as

@@ -3,9 +3,12 @@
 --                  meaning and the text after it
 --   ending         the answer of a model that is last: no word may be left
 --   joining        the answer of two models that are joined: at most 1,000 scenarios together, and no word left
+--   One            what the text of one model gives
+--   Second, Two    what the text of two models gives, from the second on, and in all
+--   GivesBy        what a text gives, by whether its first word is `joined`
 --   Gives          what a text gives: the questions are asked in the order of the text, and the first no is
 --                  the answer
---   UnlessMemory  what a refusal says, unless memory was lacking
+--   UnlessMemory   what a refusal says, unless memory was lacking
 use Rattle.std.specs.Prelude.{◌≡◌, ℕ, ◌+◌, Bool, true, false, cond, ◌⊎◌, List, length, codes, ◌==◌, nat_le}
 use Rattle.std.specs.Str.{bytes_eq}
 use Rattle.models.specs.Joined.{joint}

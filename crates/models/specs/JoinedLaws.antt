@@ -1,5 +1,11 @@
 -- What is so of two lawful models joined. Assumes nothing.
+--   either_size, either_none   what is within a limit, or 0, of both is so of either
+--   masked_none, masked_nil    what is 0 where a test holds, and elsewhere, is 0
+--   outside_same   what is outside for its benchmark or residual is outside of any model
 --   joint_lawful   the joined model is lawful
+--   inner          within the joined counts a change is the first's or the second's
+--   past           past the joined scenarios it is 0
+--   of_second      past the first's scenarios it is the second's
 --   joint_joins    it keeps the law of joining
 use Rattle.std.specs.Prelude.{◌≡◌, ℕ, ◌+◌, ◌-◌, ◌<◌, ◌≤◌, Bool, true, false, cond, ◌&&◌, ℤ, pos, nat_lt, unsigned_abs, refl}
 use Rattle.std.proofs.Common.{sym, ◌∙◌, inl, inr, ⊎_elim, arith, le-ltb, lt-ltb}

@@ -6,6 +6,7 @@ pub mod SoundLaws
 pub mod Refusals
 pub mod Laid
 pub mod Lent
+pub mod Rows
 pub mod Table
 pub mod TableLaws
 pub mod Joined

@@ -1,5 +1,7 @@
 -- What it says of each table that every number is in range. Assumes nothing.
 --   AllTrue      every one of a list of marks is true
+--   all_front, all_rest   every one of the front of a list is, and of the rest
+--   passed       a test that every number passes, and the default too, is passed at every place
 --   rate_bound, tick_bound, change_bound   each number of its table is within its limit, as is the 0 past the end
 use Rattle.std.specs.Prelude.{◌≡◌, ℕ, ◌+◌, ◌≤◌, Bool, true, List, ◌++◌, map, length, pos, nat_le, slice_index, slice_index_or, unsigned_abs}
 use Rattle.std.proofs.Common.{sym, ◌∙◌, ⊎_elim, arith}

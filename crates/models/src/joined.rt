@@ -1,5 +1,5 @@
 // Two models as one: the scenarios of the first, then those of the second.
-ghost use Rattle.std.specs.Prelude.{◌≡◌};
+ghost use Rattle.std.specs.Prelude.{◌≡◌, ℕ, ◌<◌, length, pos, slice_index_or};
 ghost use Rattle.models.specs.Joined.{joint, Joins};
 ghost use Rattle.models.specs.JoinedLaws.{joint_lawful};
 
@@ -15,10 +15,25 @@ pub struct Joined<F, S> {
 impl<F: MarginModel, S: MarginModel> Joined<F, S> {
     // The two models joined. Scenarios past 1,000 are left out.
     pub fn new(first: F, second: S) -> Joined<F, S>
-        ensures parts { (result.first ≡ first) × (result.second ≡ second) }
+        ensures same { (result.first ≡ first) × (result.second ≡ second) }
         ensures joins { Joins (F.MarginModel.meaning first) (S.MarginModel.meaning second) (joint (F.MarginModel.meaning result.first) (S.MarginModel.meaning result.second)) }
     {
         Joined { first, second }
+    }
+}
+
+// The changes in the scenarios from the first on, as many as there is room for: copied, where the model lends them.
+fn write_changes<M: MarginModel>(
+    model: &M,
+    set: u32,
+    benchmark: u32,
+    residual: u32,
+    room: &mut [i32],
+)
+    ensures { (j : ℕ) → j < length room.old → slice_index_or room.new j (pos 0) ≡ (M.meaning model.now).change set benchmark residual j }
+{
+    if let Some(row) = model.changes(set, benchmark, residual, room) {
+        room.copy_from_slice(row);
     }
 }
 
@@ -64,17 +79,18 @@ impl<F: MarginModel, S: MarginModel> MarginModel for Joined<F, S> {
         }
     }
 
-    fn changes(&self, set: u32, benchmark: u32, residual: u32, room: &mut [i32]) {
+    fn changes(&self, set: u32, benchmark: u32, residual: u32, room: &mut [i32]) -> Option<&[i32]> {
         if set >= self.sets() {
             room.fill(0);
-            return;
+            return None;
         }
         let count = room.len().min(self.scenarios() as usize);
         let split = count.min(self.first.scenarios() as usize);
         let (within, past) = room.split_at_mut(count);
         let (first, second) = within.split_at_mut(split);
-        self.first.changes(set, benchmark, residual, first);
-        self.second.changes(set, benchmark, residual, second);
+        write_changes(&self.first, set, benchmark, residual, first);
+        write_changes(&self.second, set, benchmark, residual, second);
         past.fill(0);
+        None
     }
 }

@@ -92,14 +92,21 @@ impl<N: Lend, L: Layout> MarginModel for LaidOut<N, L> {
         }
     }
 
-    fn changes(&self, set: u32, benchmark: u32, residual: u32, room: &mut [i32]) {
+    fn changes(&self, set: u32, benchmark: u32, residual: u32, room: &mut [i32]) -> Option<&[i32]> {
         let numbers = self.sound.numbers.lend();
+        let scenarios = numbers.scenarios as usize;
         if !inside(numbers.sets, set, benchmark, residual) {
             room.fill(0);
-            return;
+            return None;
         }
-        let count = room.len().min(numbers.scenarios as usize);
-        room[count..].fill(0);
-        L::changes(numbers, set, benchmark, residual, &mut room[..count]);
+        if room.len() <= scenarios {
+            return L::changes(numbers, set, benchmark, residual, room);
+        }
+        let (within, past) = room.split_at_mut(scenarios);
+        past.fill(0);
+        if let Some(row) = L::changes(numbers, set, benchmark, residual, within) {
+            within.copy_from_slice(row);
+        }
+        None
     }
 }

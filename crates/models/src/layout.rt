@@ -1,10 +1,11 @@
 // How the numbers of a model lie in its tables.
-ghost use Rattle.std.specs.Prelude.{◌≡◌, ℕ, ◌+◌, ◌*◌, ◌<◌, ◌≤◌, List, length, ℤ, pos, slice_index, slice_index_or};
+ghost use Rattle.std.specs.Prelude.{◌≡◌, ℕ, ◌+◌, ◌*◌, ◌<◌, ◌≤◌, List, length, ℤ, slice_index};
 ghost use Rattle.models.specs.Meaning.{Meaning, Lawful};
 ghost use Rattle.models.specs.Laid.{laid_out};
 ghost use Rattle.models.specs.Sound.{Sound};
 ghost use Rattle.models.specs.Tables.{Tables};
 ghost use Rattle.models.specs.Lent.{lent};
+ghost use Rattle.models.specs.Rows.{Row, LentOrWritten};
 
 use super::numbers::Numbers;
 
@@ -45,13 +46,19 @@ pub trait Layout: Copy {
     fn change(numbers: Numbers<'_>, set: u32, benchmark: u32, residual: u32, scenario: u32) -> i32
         requires sound { Sound CELLS LIMIT (lent numbers) }
         requires cell { (set < numbers.sets) × (benchmark < 4) × (residual ≤ 120) }
-        requires run { scenario < numbers.scenarios }
+        requires scenario { scenario < numbers.scenarios }
         ensures { result ≡ change_at (lent numbers.entry) set benchmark residual scenario };
 
-    // The changes in the scenarios from the first on, no more than there are.
-    fn changes(numbers: Numbers<'_>, set: u32, benchmark: u32, residual: u32, room: &mut [i32])
+    // The changes in the scenarios from the first on, no more than there are: lent where they lie, else written into `room`.
+    fn changes<'a>(
+        numbers: Numbers<'a>,
+        set: u32,
+        benchmark: u32,
+        residual: u32,
+        room: &mut [i32],
+    ) -> Option<&'a [i32]>
         requires sound { Sound CELLS LIMIT (lent numbers) }
         requires cell { (set < numbers.sets) × (benchmark < 4) × (residual ≤ 120) }
-        requires run { length room.old ≤ numbers.scenarios }
-        ensures { (j : ℕ) → j < length room.old → slice_index_or room.new j (pos 0) ≡ change_at (lent numbers.entry) set benchmark residual j };
+        requires scenario { length room.old ≤ numbers.scenarios }
+        ensures { LentOrWritten (Row (change_at (lent numbers.entry) set benchmark residual) (length room.old)) result room.new };
 }

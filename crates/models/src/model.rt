@@ -1,7 +1,8 @@
 // What every margin model answers. Asked outside of its counts, the 4 benchmarks or the residuals 0 to
 // 120, it answers 0.
-ghost use Rattle.std.specs.Prelude.{◌≡◌, ℕ, ◌<◌, length, pos, slice_index_or};
+ghost use Rattle.std.specs.Prelude.{◌≡◌, length};
 ghost use Rattle.models.specs.Meaning.{Meaning, Lawful, within};
+ghost use Rattle.models.specs.Rows.{Row, LentOrWritten};
 
 // Set, benchmark and residual stay three parameters: every make passes them on or asks one of them, so a
 // struct would be built at each call only to be taken apart.
@@ -32,9 +33,9 @@ pub trait MarginModel {
     fn change(&self, set: u32, benchmark: u32, residual: u32, scenario: u32) -> i32
         ensures { result ≡ (meaning self.now).change set benchmark residual scenario };
 
-    // The changes in the scenarios from the first on, as many as there is room for.
-    fn changes(&self, set: u32, benchmark: u32, residual: u32, room: &mut [i32])
-        ensures { (j : ℕ) → j < length room.old → slice_index_or room.new j (pos 0) ≡ (meaning self.now).change set benchmark residual j };
+    // The changes in the scenarios from the first on, as many as `room` has places: lent where they lie, else written into `room`.
+    fn changes(&self, set: u32, benchmark: u32, residual: u32, room: &mut [i32]) -> Option<&[i32]>
+        ensures { LentOrWritten (Row ((meaning self.now).change set benchmark residual) (length room.old)) result room.new };
 }
 
 // A model that is borrowed is a model.
@@ -63,7 +64,7 @@ impl<M: MarginModel> MarginModel for &M {
         (*self).change(set, benchmark, residual, scenario)
     }
 
-    fn changes(&self, set: u32, benchmark: u32, residual: u32, room: &mut [i32]) {
+    fn changes(&self, set: u32, benchmark: u32, residual: u32, room: &mut [i32]) -> Option<&[i32]> {
         (*self).changes(set, benchmark, residual, room)
     }
 }

@@ -49,8 +49,14 @@ impl Layout for TableLayout {
             + scenario as usize]
     }
 
-    fn changes(numbers: Numbers<'_>, set: u32, benchmark: u32, residual: u32, room: &mut [i32]) {
+    fn changes<'a>(
+        numbers: Numbers<'a>,
+        set: u32,
+        benchmark: u32,
+        residual: u32,
+        room: &mut [i32],
+    ) -> Option<&'a [i32]> {
         let first = place(set, benchmark, residual) * numbers.scenarios as usize;
-        room.copy_from_slice(&numbers.changes[first..first + room.len()]);
+        Some(&numbers.changes[first..first + room.len()])
     }
 }

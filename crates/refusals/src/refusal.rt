@@ -85,7 +85,7 @@ impl From<Refusal> for u8 {
 // One question: go on if the answer is yes.
 pub fn ask(yes: bool, refusal: Refusal) -> Result<(), Refusal>
     ensures value { result ≡ asked yes refusal }
-    ensures told { yes ≡ is_ok result }
+    ensures answer { yes ≡ is_ok result }
 {
     if yes { Ok(()) } else { Err(refusal) }
 }

@@ -1,5 +1,7 @@
 -- A row of losses, one trade more.
-use Rattle.std.proofs.Common.{◌≡◌, ℕ, ◌+◌, ◌<◌, ◌≤◌, List, length, get_or, take, set, ℤ, pos, ◌+ℤ◌, nat_abs, sym, ap, ◌∙◌, ⊎_elim, arith, w64, SFits, to_z, of_z}
+use Rattle.std.proofs.Common.{◌≡◌, ℕ, ◌+◌, ◌*◌, ◌<◌, ◌≤◌, List, length, get_or, take, set, ℤ, pos, ◌+ℤ◌, nat_abs, refl, sym, ap, ◌∙◌, ⊎_elim, arith, w64, SFits, to_z, of_z}
+use Rattle.std.specs.List.{All}
+use Rattle.std.proofs.Math.IntN.{+ℤ_assoc}
 use Rattle.std.proofs.lemmas.Int.{to_z-of_z}
 use Rattle.std.proofs.lemmas.Bool.{cases_eq, cases_lt}
 use Rattle.std.proofs.lemmas.List.{get_or-set_same, get_or-set_other, get_or_past, length-take-le}
@@ -8,9 +10,10 @@ use Rattle.std.proofs.lemmas.List.FromFn.{fill_by_all}
 use Rattle.models.specs.Meaning.{Meaning, Lawful}
 use Rattle.tables.specs.declared.row.TradeRow.{TradeRow}
 use Rattle.market.specs.declared.day.Day.{Day}
-use Rattle.risk.specs.Groups.{TradeFits, Standing}
-use Rattle.risk.specs.Losses.{loss_of, losses_of}
-use Rattle.risk.proofs.Signs.{fits_money, size_add}
+use Rattle.tables.specs.Limits.{no_trade}
+use Rattle.risk.specs.Groups.{TradeFits}
+use Rattle.risk.specs.Losses.{leg_of, loss_of, losses_of}
+use Rattle.risk.proofs.Signs.{fits_money, size_add, sum_next}
 use Rattle.risk.proofs.Risks.{loss_most}
 
 module _ (a b : ℤ) (ha : nat_abs a ≤ 126000000000000) (hb : nat_abs b ≤ 2000000000000) where
@@ -27,10 +30,6 @@ module _ (a b : ℤ) (ha : nat_abs a ≤ 126000000000000) (hb : nat_abs b ≤ 20
   added = to_z-of_z w64 _ sum_fits ∙ sum_is
 
 module _ (f : ℕ → ℤ) (xs ys : List ℤ) (j : ℕ) (v : ℤ) where
-  -- w and z are what is read and what is added
-  pub adds_here : (w z : ℤ) → v ≡ w +ℤ z → w ≡ get_or xs j (pos 0) → z ≡ f j → v ≡ get_or xs j (pos 0) +ℤ f j
-  adds_here w z is read one = cc
-
   pub adds_below : j < length ys → ((k : ℕ) → k < j → get_or ys k (pos 0) ≡ get_or xs k (pos 0) +ℤ f k) → v ≡ get_or xs j (pos 0) +ℤ f j → (k : ℕ) → k < j + 1 → get_or (set ys j v) k (pos 0) ≡ get_or xs k (pos 0) +ℤ f k
   adds_below lt so_far is k h =
       ⊎_elim
@@ -41,15 +40,23 @@ module _ (f : ℕ → ℤ) (xs ys : List ℤ) (j : ℕ) (v : ℤ) where
   pub adds_above : ((k : ℕ) → j ≤ k → get_or ys k (pos 0) ≡ get_or xs k (pos 0)) → (k : ℕ) → j + 1 ≤ k → get_or (set ys j v) k (pos 0) ≡ get_or xs k (pos 0)
   adds_above so_far k h = get_or-set_other ys j k v (pos 0) (λ e. omega arith) ∙ so_far k (omega arith)
 
-module _ (m : Meaning) (d : Day) (ts : List TradeRow) (xs : List ℤ) where
+module _ (m : Meaning) (d : Day) (ts : List TradeRow) (ys : List ℤ) where
   -- before a trade more is added, no loss is far from 0
-  pub losses_small : (i n : ℕ) → Lawful m → Standing ts → i < length ts → length xs ≡ n → ((j : ℕ) → j < n → get_or xs j (pos 0) ≡ loss_of m d j (take i ts)) → (j : ℕ) → nat_abs (get_or xs j (pos 0)) ≤ 126000000000000
-  losses_small i n law h lt len is j =
+  pub losses_small : (xs : List ℤ) (i : ℕ) → Lawful m → All TradeFits ts → i < length ts → ((j : ℕ) → nat_abs (get_or xs j (pos 0)) + 2000000000000 * length ts ≤ 128000000000000) → ((j : ℕ) → j < length ys → get_or ys j (pos 0) ≡ get_or xs j (pos 0) +ℤ loss_of m d j (take i ts)) → (j : ℕ) → nat_abs (get_or ys j (pos 0)) ≤ 126000000000000
+  losses_small xs i law fits lt space is j =
       ⊎_elim
-      (λ in'. let size = loss_most m d j (take i ts) law (All-take TradeFits i ts h.each) in let e = ap nat_abs (is j in') in omega (arith, h.few, length-take-le i ts (omega arith)))
-      (λ past. let e = ap nat_abs (get_or_past xs j (pos 0) (omega arith)) in omega arith)
-      (cases_lt j n)
+      (λ in'. let size = loss_most m d j (take i ts) law (All-take TradeFits i ts fits) in let e = ap nat_abs (is j in') in omega (arith, space j, size_add (get_or xs j (pos 0)) (loss_of m d j (take i ts)), length-take-le i ts (omega arith)))
+      (λ past. let e = ap nat_abs (get_or_past ys j (pos 0) past) in omega arith)
+      (cases_lt j (length ys))
 
-  pub losses_are : length xs ≡ m.scenarios → ((j : ℕ) → j < m.scenarios → get_or xs j (pos 0) ≡ loss_of m d j ts) → xs ≡ losses_of m d ts
+  -- a trade more: x is a loss at first, y before the trade, and z after it
+  pub loss_more : (i j : ℕ) (t : TradeRow) (x y z : ℤ) → i < length ts → t ≡ get_or ts i no_trade → y ≡ x +ℤ loss_of m d j (take i ts) → z ≡ y +ℤ leg_of m d j t → z ≡ x +ℤ loss_of m d j (take (i + 1) ts)
+  loss_more i j t x y z lt one so_far is =
+      is
+      ∙ ap (λ u. u +ℤ leg_of m d j t) so_far
+      ∙ +ℤ_assoc x (loss_of m d j (take i ts)) (leg_of m d j t)
+      ∙ ap (λ u. x +ℤ u) (sum_next (leg_of m d j) ts i no_trade (loss_of m d j (take i ts)) (leg_of m d j t) lt refl (ap (leg_of m d j) one))
+
+  pub losses_are : length ys ≡ m.scenarios → ((j : ℕ) → j < m.scenarios → get_or ys j (pos 0) ≡ loss_of m d j ts) → ys ≡ losses_of m d ts
   unfolding losses_of
-  losses_are len is = fill_by_all (λ j. loss_of m d j ts) xs m.scenarios (pos 0) len is
+  losses_are len is = fill_by_all (λ j. loss_of m d j ts) ys m.scenarios (pos 0) len is

@@ -1,5 +1,5 @@
 -- Trades that are all of one benchmark and residual: one group has all of them, and every other group has none.
-use Rattle.std.proofs.Common.{◌≡◌, ℕ, zero, suc, ◌/◌, ◌<◌, ◌≤◌, min, Bool, true, false, cond, ◌⊎◌, inl, inr, List, [], ◌∷◌, Option, Some, None, IfSome, MatchOption, is_some, unwrap_or, length, get_or, take, replicate, filter, refl, sym, ap, subst, true≢false, ◌≢◌, ◌∙◌, ⊎_elim, arith}
+use Rattle.std.proofs.Common.{◌≡◌, ℕ, zero, suc, ◌/◌, ◌<◌, ◌≤◌, min, Bool, true, false, cond, ◌⊎◌, inl, inr, List, [], ◌∷◌, Option, Some, None, IfSome, MatchOption, unwrap_or, length, get_or, take, replicate, filter, refl, sym, ap, subst, true≢false, ◌∙◌, ⊎_elim, arith}
 use Rattle.std.specs.Prelude.{◌==◌, nat_le}
 use Rattle.std.specs.List.{All, list_all}
 use Rattle.std.proofs.lemmas.Bool.{cases_Bool, false_from_ne_true, cases_eq, cases_lt, and_parts, eqb-true, eq-eqb, ne_eqb, leb-true}
@@ -21,13 +21,13 @@ use Rattle.risk.proofs.Risks.{var_none}
 
 -- filters
 module _ {X : Type 0} (p : X → Bool) where
-  filter_all : (xs : List X) → All (λ x. p x ≡ true) xs → filter p xs ≡ xs
+  pub filter_all : (xs : List X) → All (λ x. p x ≡ true) xs → filter p xs ≡ xs
   filter_all [] h = refl
   filter_all (x ∷ xs) h =
       ap (λ b. cond b (x ∷ filter p xs) (filter p xs)) (All-head (λ y. p y ≡ true) x xs h)
       ∙ ap (λ u. x ∷ u) (filter_all xs (All-tail (λ y. p y ≡ true) x xs h))
 
-  filter_none : (xs : List X) → All (λ x. p x ≡ false) xs → filter p xs ≡ []
+  pub filter_none : (xs : List X) → All (λ x. p x ≡ false) xs → filter p xs ≡ []
   filter_none [] h = refl
   filter_none (x ∷ xs) h =
       ap (λ b. cond b (x ∷ filter p xs) (filter p xs)) (All-head (λ y. p y ≡ false) x xs h)
@@ -56,18 +56,11 @@ value_or_nought : (o : Option ℕ) (P : Type 0) (v : ℕ) → (P → v ≡ 0) �
 value_or_nought None P v none h = sym (none h)
 value_or_nought (Some u) P v none h = h
 
-abbrev nothing : Option ℕ
+abbrev pub nothing : Option ℕ
 nothing = None
 
-nothing_known : (n k : ℕ) → get_or (replicate n nothing) k nothing ≡ nothing
+pub nothing_known : (n k : ℕ) → get_or (replicate n nothing) k nothing ≡ nothing
 nothing_known n k = ⊎_elim (λ lt. get_or-replicate n k nothing nothing lt) (λ past. get_or_past (replicate n nothing) k nothing (omega (arith, length-replicate n nothing))) (cases_lt k n)
-
-pub nothing_if : (n k : ℕ) (P : ℕ → Type 0) → IfSome (get_or (replicate n nothing) k nothing) P
-nothing_if n k P = subst (λ o. IfSome o P) (sym (nothing_known n k)) tt
-
-pub some_has : {A : Type 0} (o : Option A) (P : A → Type 0) → is_some o ≡ true → IfSome o P → (x : A) × P x
-some_has None P some h = absurd (true≢false (sym some))
-some_has (Some x) P some h = (x, h)
 
 -- what is known of each group after some of the elements: its value, or nothing yet, as none of them is in it
 module _ {X : Type 0} (key : X → ℕ) (value : ℕ → ℕ) where
@@ -147,25 +140,23 @@ pub group_none : (m : Meaning) (d : Day) (g : Grouping) (ts : List TradeRow) (k 
 unfolding group_trades
 group_none m d g ts k none = ap (var_of m d) none ∙ var_none m d
 
--- residuals that are the same are in one group, but for benchmarks
-residual_key : (g : Grouping) (d : Day) (t u : TradeRow) → g ≢ ByBenchmark → residual_of d t ≡ residual_of d u → key_of g d t ≡ key_of g d u
-residual_key ByResidual d t u half e = e
-residual_key ByHalfYear d t u half e = ap (λ r. min (r / 6) 19) e
-residual_key ByBenchmark d t u half e = absurd (half refl)
+-- residuals that are the same are in one bucket
+residual_key : (d : Day) (t u : TradeRow) → residual_of d t ≡ residual_of d u → key_of ByHalfYear d t ≡ key_of ByHalfYear d u
+residual_key d t u e = ap (λ r. min (r / 6) 19) e
 
--- a group whose trades are all of one residual is the group of that residual
-module _ (m : Meaning) (d : Day) (g : Grouping) (k : ℕ) (ts : List TradeRow) (half : g ≢ ByBenchmark) where
-  lone_group : (f : TradeRow) → LoneTrade d f (group_trades g d k ts) → group_trades ByResidual d (residual_of d f) ts ≡ group_trades g d k ts
+-- a bucket whose trades are all of one residual is the group of that residual
+module _ (m : Meaning) (d : Day) (k : ℕ) (ts : List TradeRow) where
+  lone_group : (f : TradeRow) → LoneTrade d f (group_trades ByHalfYear d k ts) → group_trades ByResidual d (residual_of d f) ts ≡ group_trades ByHalfYear d k ts
   unfolding group_trades
   lone_group f lone =
-      let p : TradeRow → Bool = λ t. key_of g d t == k in
-      let here : key_of g d f ≡ k = ap (key_of g d) lone.1 ∙ eqb-true (key_of g d (get_or (filter p ts) 0 no_trade)) k (All-get_or (λ t. p t ≡ true) (filter p ts) 0 no_trade lone.0 (filter_passes p ts)) in
+      let p : TradeRow → Bool = λ t. key_of ByHalfYear d t == k in
+      let here : key_of ByHalfYear d f ≡ k = ap (key_of ByHalfYear d) lone.1 ∙ eqb-true (key_of ByHalfYear d (get_or (filter p ts) 0 no_trade)) k (All-get_or (λ t. p t ≡ true) (filter p ts) 0 no_trade lone.0 (filter_passes p ts)) in
       filter_finer p (λ t. residual_of d t == residual_of d f)
-      (λ t e. eq-eqb (key_of g d t) k (residual_key g d t f half (eqb-true (residual_of d t) (residual_of d f) e) ∙ here))
+      (λ t e. eq-eqb (key_of ByHalfYear d t) k (residual_key d t f (eqb-true (residual_of d t) (residual_of d f) e) ∙ here))
       ts
       (all_from (alike d f) (λ t. (residual_of d t == residual_of d f) ≡ true) (λ t h. (and_parts (t.benchmark == f.benchmark) (residual_of d t == residual_of d f) h).1) (filter p ts) lone.2)
 
-  pub known_lone : (vs : List (Option ℕ)) (h : List TradeRow) → h ≡ group_trades g d k ts → KnownRisks m d ByResidual ts vs → KnownLone m d h vs
+  pub known_lone : (vs : List (Option ℕ)) (h : List TradeRow) → h ≡ group_trades ByHalfYear d k ts → KnownRisks m d ByResidual ts vs → KnownLone m d h vs
   known_lone vs h is known f lone =
       let here : group_trades ByResidual d (residual_of d f) ts ≡ h = lone_group f (subst (LoneTrade d f) is lone) ∙ sym is in
       subst (λ r. IfSome (get_or vs (residual_of d f) None) (λ v. v ≡ r)) (ap (var_of m d) here) (known (residual_of d f))

@@ -7,3 +7,6 @@ pub mod Adds
 pub mod Bands
 pub mod Nets
 pub mod Alones
+pub mod Rows
+pub mod Parts
+pub mod Products

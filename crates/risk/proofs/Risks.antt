@@ -34,7 +34,7 @@ module _ (m : Meaning) (d : Day) (ts : List TradeRow) where
   unfolding losses_of
   length_losses = length-map-range_with_len (λ j. loss_of m d j ts) 0 m.scenarios
 
-  get_or_losses : (j : ℕ) (e : ℤ) → j < m.scenarios → get_or (losses_of m d ts) j e ≡ loss_of m d j ts
+  pub get_or_losses : (j : ℕ) (e : ℤ) → j < m.scenarios → get_or (losses_of m d ts) j e ≡ loss_of m d j ts
   unfolding losses_of
   get_or_losses j e h = get_or-map-range_with_len (λ i. loss_of m d i ts) 0 m.scenarios j j e h (omega arith)
 
@@ -87,6 +87,13 @@ unfolding var_of
 var_most m d ts law fits =
     let size : nat_abs (tail_loss m d ts) ≤ 2000000000000 * length ts = tail_has m d ts (λ z. nat_abs z ≤ 2000000000000 * length ts) (omega arith) (each_loss m d ts (λ z. nat_abs z ≤ 2000000000000 * length ts) (λ j. loss_most m d j ts law fits)) in
     omega (arith, gain_le (tail_loss m d ts))
+
+pub losses_most : (m : Meaning) (d : Day) (j : ℕ) (ts : List TradeRow) → Lawful m → All TradeFits ts → nat_abs (get_or (losses_of m d ts) j (pos 0)) ≤ 2000000000000 * length ts
+losses_most m d j ts law fits =
+    ⊎_elim
+    (λ lt. let e = ap nat_abs (get_or_losses m d ts j (pos 0) lt) in omega (arith, loss_most m d j ts law fits))
+    (λ past. let e = ap nat_abs (get_or_past (losses_of m d ts) j (pos 0) (omega (arith, length_losses m d ts))) in omega arith)
+    (cases_lt j m.scenarios)
 
 -- losses of 0 put nothing at risk
 pub var_nought : (m : Meaning) (d : Day) (ts : List TradeRow) → ((j : ℕ) → nat_abs (loss_of m d j ts) ≤ 0) → var_of m d ts ≡ 0

@@ -1,6 +1,7 @@
 // The risk of trades: groups, losses over the scenarios, value at risk, and the initial margin of one benchmark.
 #![tactic(auto)]
 
+mod adding;
 pub mod figures;
 pub mod gather;
 pub mod grouping;

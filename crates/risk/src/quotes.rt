@@ -1,5 +1,6 @@
 // A model on a day.
-ghost use Rattle.std.specs.Prelude.{◌≡◌, ℕ, ◌<◌, length, pos, slice_index_or};
+ghost use Rattle.std.specs.Prelude.{◌≡◌, length};
+ghost use Rattle.models.specs.Rows.{Row, LentOrWritten};
 ghost use Rattle.market.specs.Days.{residual_of};
 
 use market::day::Day;
@@ -33,12 +34,13 @@ impl<'a, M: MarginModel> Quotes<'a, M> {
             .tick(self.day.set, trade.benchmark as u32, residual)
     }
 
-    // What a lakh of a pay-fixed trade gains in the scenarios, in paise: from the first on, as many as there is room for.
-    pub fn changes(&self, trade: &TradeRow, room: &mut [i32])
-        ensures { (j : ℕ) → j < length room.old → slice_index_or room.new j (pos 0) ≡ (M.meaning self.now.model.now).change self.now.day.set trade.now.benchmark (residual_of self.now.day trade.now) j }
+    // What a lakh of a pay-fixed trade gains in the scenarios, in paise: from the first on, as many as `room` has places, lent where
+    // they lie, else written into `room`.
+    pub fn changes(&self, trade: &TradeRow, room: &mut [i32]) -> Option<&[i32]>
+        ensures { LentOrWritten (Row ((M.meaning self.now.model.now).change self.now.day.set trade.now.benchmark (residual_of self.now.day trade.now)) (length room.old)) result room.new }
     {
         let residual = self.day.residual(trade);
         self.model
-            .changes(self.day.set, trade.benchmark as u32, residual, room);
+            .changes(self.day.set, trade.benchmark as u32, residual, room)
     }
 }

@@ -1,15 +1,15 @@
-// The values at risk of the groups, added up: by residual and by half-year bucket.
-ghost use Rattle.std.specs.Prelude.{◌≡◌, ◌≢◌, ◌*◌, ◌≤◌, Some, None, IfSome, length, slice_index_or};
+// The values at risk of the groups, added up, by residual and by half-year bucket; and that of the whole, from the losses of the buckets.
+ghost use Rattle.std.specs.Prelude.{◌≡◌, ℕ, ◌+◌, ◌*◌, ◌<◌, ◌≤◌, pos, ◌+ℤ◌, unsigned_abs, Some, None, IfSome, length, slice_index_or};
 ghost use Rattle.tables.specs.declared.row.TradeRow.{TradeRow};
 ghost use Rattle.market.specs.Days.{residual_of};
-ghost use Rattle.risk.specs.declared.grouping.Grouping.TheVariants.{ByResidual, ByHalfYear, ByBenchmark};
+ghost use Rattle.risk.specs.declared.grouping.Grouping.TheVariants.{ByResidual, ByHalfYear};
 ghost use Rattle.risk.specs.Groups.{LoneTrade};
-ghost use Rattle.risk.specs.Losses.{var_of};
+ghost use Rattle.risk.specs.Losses.{loss_of, var_of, AtRisk};
 ghost use Rattle.risk.specs.Initial.{KnownRisks, KnownLone, GroupRisks, grouped_risk};
 
 use super::gather::gather;
 use super::grouping::Grouping;
-use super::losses::{Scratch, lone_trade};
+use super::losses::{Scratch, add_losses, lone_trade, risk_of_losses};
 use super::quotes::Quotes;
 use market::day::Day;
 use models::model::MarginModel;
@@ -19,11 +19,12 @@ use tables::standing::StandingTrades;
 // By group: its value at risk, if it is known. An array, since the engine has no heap: 121 is the most groups that there are.
 type RisksByGroup = [Option<u64>; 121];
 
-// The values at risk by residual and by half-year bucket, added up.
+// The values at risk by residual and by half-year bucket, added up, and as a whole.
 #[derive(Clone, Copy)]
 pub(crate) struct Sums {
     pub residuals: u64,
     pub halfyears: u64,
+    pub whole: u64,
 }
 
 // What is known of the residual that all trades of a group are of.
@@ -34,46 +35,103 @@ fn lone_risk(day: Day, group: StandingTrades, residuals: &RisksByGroup) -> Optio
     residuals[day.residual(first) as usize]
 }
 
-impl<'a, M: MarginModel> Quotes<'a, M> {
-    // The value at risk of a group. What is known of the residual that all of its trades are of is not worked out again.
-    fn group_risk(
-        &self,
-        group: StandingTrades,
-        residuals: &RisksByGroup,
-        scratch: &mut Scratch,
-    ) -> u64
-        requires { KnownLone (M.meaning self.now.model.now) self.now.day group.trades.now residuals.now }
-        ensures { result ≡ var_of (M.meaning self.now.model.now) self.now.day group.entry.trades.now }
-    {
-        lone_risk(self.day, group, residuals).unwrap_or_else(|| self.value_at_risk(group, scratch))
-    }
+// The half-year buckets: the value at risk of each, and that of all of their trades as a whole.
+#[derive(Drop)]
+struct Buckets {
+    risks: RisksByGroup,
+    whole: u64,
+}
 
-    // The value at risk of each group, trade by trade, so that no group without trades is walked. The groups share a room, which is made
-    // once: an array, since the engine has no heap, and 64 is the most trades. By a test and no `get_or_insert_with`, whose closure would have
-    // to say again what the function asks.
-    #[tactic(auto, using(crate::proofs::Alones::known_lone))]
-    fn group_risks(
-        &self,
-        grouping: Grouping,
-        residuals: &RisksByGroup,
-        trades: StandingTrades,
-        scratch: &mut Scratch,
-    ) -> RisksByGroup
-        requires halves { grouping ≢ ByBenchmark }
-        requires residuals { KnownRisks (M.meaning self.now.model.now) self.now.day ByResidual trades.trades.now residuals.now }
-        ensures { GroupRisks (M.meaning self.now.model.now) self.now.day grouping trades.entry.trades.now result }
+impl<'a, M: MarginModel> Quotes<'a, M> {
+    // The value at risk of each residual, trade by trade, so that no group without trades is walked. The groups share a room, which is made
+    // once: an array, since the engine has no heap, and 64 is the most trades.
+    fn residual_risks(&self, trades: StandingTrades, scratch: &mut Scratch) -> RisksByGroup
+        ensures { GroupRisks (M.meaning self.now.model.now) self.now.day ByResidual trades.entry.trades.now result }
     {
         let mut room = [NO_TRADE; 64];
         let mut risks = [None; 121];
         for trade in trades.rows() {
-            let key = grouping.key(self.day, trade);
+            let key = Grouping::ByResidual.key(self.day, trade);
             if risks[key as usize].is_some() {
                 continue;
             }
-            let group = gather(grouping, self.day, key, trades, &mut room);
-            risks[key as usize] = Some(self.group_risk(group, residuals, scratch));
+            let group = gather(Grouping::ByResidual, self.day, key, trades, &mut room);
+            risks[key as usize] = Some(self.value_at_risk(group, scratch));
         }
         risks
+    }
+
+    // The value at risk of a bucket in which several residuals have trades: its losses are worked out once, and added to `all`.
+    fn summed_bucket(
+        &self,
+        group: StandingTrades,
+        changes: &mut [i32; 1000],
+        losses: &mut [i64; 1000],
+        all: &mut [i64],
+    ) -> u64
+        requires len { length all.old ≡ (M.meaning self.now.model.now).scenarios }
+        requires small { (j : ℕ) → unsigned_abs (slice_index_or all.old j (pos 0)) ≤ 128000000000000 }
+        ensures value { result ≡ var_of (M.meaning self.now.model.now) self.now.day group.entry.trades.now }
+        ensures losses { (j : ℕ) → j < length all.old → slice_index_or all.new j (pos 0) ≡ slice_index_or all.old j (pos 0) +ℤ loss_of (M.meaning self.now.model.now) self.now.day j group.entry.trades.now }
+    {
+        let losses = &mut losses[..all.len()];
+        self.write_losses(group, changes, losses);
+        add_losses(losses, all);
+        risk_of_losses(losses)
+    }
+
+    // The value at risk of a bucket, whose losses are added to `all`. What is known of the residual that all of its trades are of is not
+    // worked out again.
+    fn bucket_risk(
+        &self,
+        group: StandingTrades,
+        residuals: &RisksByGroup,
+        scratch: &mut Scratch,
+        all: &mut [i64],
+    ) -> u64
+        requires known { KnownLone (M.meaning self.now.model.now) self.now.day group.trades.now residuals.now }
+        requires len { length all.old ≡ (M.meaning self.now.model.now).scenarios }
+        requires small { (j : ℕ) → unsigned_abs (slice_index_or all.old j (pos 0)) + 2000000000000 * length group.trades.now ≤ 128000000000000 }
+        ensures value { result ≡ var_of (M.meaning self.now.model.now) self.now.day group.entry.trades.now }
+        ensures losses { (j : ℕ) → j < length all.old → slice_index_or all.new j (pos 0) ≡ slice_index_or all.old j (pos 0) +ℤ loss_of (M.meaning self.now.model.now) self.now.day j group.entry.trades.now }
+    {
+        let Scratch { changes, losses } = scratch;
+        let Some(risk) = lone_risk(self.day, group, residuals) else {
+            return self.summed_bucket(group, changes, losses, all);
+        };
+        self.add_group(group, changes, all);
+        risk
+    }
+
+    // The buckets, trade by trade. The losses of the whole are gathered from theirs, so that no trade's are worked out twice. By a test
+    // and no `get_or_insert_with`, whose closure would have to say again what the function asks.
+    #[tactic(auto, using(crate::proofs::Alones::known_lone))]
+    fn buckets(
+        &self,
+        residuals: &RisksByGroup,
+        trades: StandingTrades,
+        scratch: &mut Scratch,
+    ) -> Buckets
+        requires { KnownRisks (M.meaning self.now.model.now) self.now.day ByResidual trades.trades.now residuals.now }
+        ensures risks { GroupRisks (M.meaning self.now.model.now) self.now.day ByHalfYear trades.entry.trades.now result.risks }
+        ensures whole { result.whole ≡ var_of (M.meaning self.now.model.now) self.now.day trades.entry.trades.now }
+    {
+        let mut losses = [0; 1000];
+        let all = &mut losses[..self.model.scenarios() as usize];
+        let mut room = [NO_TRADE; 64];
+        let mut risks = [None; 121];
+        for trade in trades.rows() {
+            let key = Grouping::ByHalfYear.key(self.day, trade);
+            if risks[key as usize].is_some() {
+                continue;
+            }
+            let group = gather(Grouping::ByHalfYear, self.day, key, trades, &mut room);
+            risks[key as usize] = Some(self.bucket_risk(group, residuals, scratch, all));
+        }
+        Buckets {
+            risks,
+            whole: risk_of_losses(all),
+        }
     }
 
     // The values at risk of the groups, added up. A `for`: nothing bounds the sum of a chain.
@@ -95,25 +153,30 @@ impl<'a, M: MarginModel> Quotes<'a, M> {
         sum
     }
 
-    // X, by residual, and Z, by half-year bucket, of trades whose value at risk is `whole`. Where they are all alike, one group has them all.
-    #[tactic(auto, using(crate::proofs::Apart::var_bound))]
-    pub(crate) fn sums(&self, trades: StandingTrades, whole: u64, scratch: &mut Scratch) -> Sums
-        requires { whole ≡ var_of (M.meaning self.now.model.now) self.now.day trades.trades.now }
+    // X, by residual, Z, by half-year bucket, and Y, as a whole. Where the trades are all alike, one group has them all.
+    #[tactic(auto, using(crate::proofs::Apart::var_words, crate::proofs::Apart::var_bound))]
+    pub(crate) fn sums(&self, trades: StandingTrades) -> Sums
         ensures residuals { result.residuals ≡ grouped_risk (M.meaning self.now.model.now) self.now.day ByResidual trades.entry.trades.now }
         ensures halfyears { result.halfyears ≡ grouped_risk (M.meaning self.now.model.now) self.now.day ByHalfYear trades.entry.trades.now }
-        ensures bounds { (result.residuals ≤ 2000000000000 * length trades.entry.trades.now) × (result.halfyears ≤ 2000000000000 * length trades.entry.trades.now) }
+        ensures whole { result.whole ≡ var_of (M.meaning self.now.model.now) self.now.day trades.entry.trades.now }
+        ensures words { AtRisk (M.meaning self.now.model.now) self.now.day trades.entry.trades.now result.whole }
+        ensures bound { (result.residuals ≤ 2000000000000 * length trades.entry.trades.now) × (result.halfyears ≤ 2000000000000 * length trades.entry.trades.now) × (result.whole ≤ 2000000000000 * length trades.entry.trades.now) }
     {
-        if lone_trade(self.day, trades).is_some() {
+        if let Some(first) = lone_trade(self.day, trades) {
+            let whole = self.netted_risk(first, trades, &mut [0; 1000]);
             return Sums {
                 residuals: whole,
                 halfyears: whole,
+                whole,
             };
         }
-        let residuals = self.group_risks(Grouping::ByResidual, &[None; 121], trades, scratch);
-        let halfyears = self.group_risks(Grouping::ByHalfYear, &residuals, trades, scratch);
+        let mut scratch = Scratch::new();
+        let residuals = self.residual_risks(trades, &mut scratch);
+        let buckets = self.buckets(&residuals, trades, &mut scratch);
         Sums {
             residuals: self.sum_group_risks(Grouping::ByResidual, &residuals, trades),
-            halfyears: self.sum_group_risks(Grouping::ByHalfYear, &halfyears, trades),
+            halfyears: self.sum_group_risks(Grouping::ByHalfYear, &buckets.risks, trades),
+            whole: buckets.whole,
         }
     }
 }

@@ -3,6 +3,7 @@ ghost use Rattle.std.specs.Prelude.{◌≡◌, ◌*◌, ◌≤◌, pos, ◌*ℤ�
 ghost use Rattle.risk.specs.Groups.{TradeFits};
 ghost use Rattle.risk.specs.Signs.{negated_for};
 ghost use Rattle.tables.specs.Codes.{side_of};
+ghost use Rattle.tables.specs.declared.codes.Side.TheVariants.{Pay};
 
 use tables::codes::Side;
 use tables::row::TradeRow;
@@ -25,6 +26,18 @@ impl<'a> Trade<'a> {
         ensures { result ≡ side_of self.entry.row.now.side }
     {
         Side::from(self.row.side)
+    }
+
+    // The notional; negated for trades that pay the fixed rate. In 32 bits, so that the machine multiplies it by a change in one step.
+    pub(crate) fn signed_notional(self) -> i32
+        ensures value { result ≡ negated_for Pay (side_of self.entry.row.now.side) (pos self.entry.row.now.notional) }
+        ensures bound { unsigned_abs result ≤ 1000000 }
+    {
+        let notional = self.row.notional as i32;
+        match self.side() {
+            Side::Pay => -notional,
+            Side::Receive => notional,
+        }
     }
 
     // The notional, times what each lakh comes to.

@@ -1,15 +1,17 @@
 -- The opening of a house.
 -- quiet_family, opened_market: a family and a market as an opening leaves them. empty_row: a record with nothing in it.
 -- opening_questions: its questions in their order. opened_rows, opened_trades: the tables that it leaves.
-use Rattle.std.specs.Prelude.{ℕ, ◌*◌, true, false, ◌&&◌, List, [], ◌∷◌, length, replicate, None, ◌==◌, nat_le}
+-- opening_result: what an opening that brings its own tables is answered.
+use Rattle.std.specs.Prelude.{ℕ, ◌*◌, true, false, ◌&&◌, List, [], ◌∷◌, length, replicate, None, Result, ◌==◌, nat_le}
 use Rattle.tables.specs.declared.row.AccountRow.{AccountRow}
 use Rattle.tables.specs.declared.row.TradeRow.{TradeRow}
 use Rattle.tables.specs.Books.{no_levels}
 use Rattle.tables.specs.Limits.{no_trade, no_security}
 use Rattle.market.specs.declared.state.FamilyState.{FamilyState}
 use Rattle.market.specs.declared.state.MarketState.{MarketState}
+use Rattle.refusals.specs.declared.refusal.Refusal.{Refusal}
 use Rattle.refusals.specs.declared.refusal.Refusal.TheVariants.{Tables, WrongAccounts, WrongOpeningMonth}
-use Rattle.refusals.specs.Refusals.{Question}
+use Rattle.refusals.specs.Refusals.{Question, first_no}
 
 -- volatility 0, no averages, no thresholds, no slot checked
 abbrev pub quiet_family : FamilyState
@@ -34,3 +36,6 @@ opening_questions n month rs ts =
     ∷ (nat_le month 1199, WrongOpeningMonth)
     ∷ (length rs == n && (length ts == 64 * n), Tables)
     ∷ []
+
+abbrev pub opening_result : ℕ → ℕ → Result (Unit {0}) Refusal
+opening_result n month = first_no (opening_questions n month (opened_rows n) (opened_trades n))

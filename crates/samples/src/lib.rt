@@ -15,8 +15,8 @@ use std::{env, fs};
 
 // What is said of a run that prints a text where another is expected.
 pub fn verdict(printed: &str, expected: &str) -> Verdict
-    ensures same { printed.now ≡ expected.now → result ≡ AsExpected }
-    ensures other { printed.now ≢ expected.now → result ≡ Differs }
+    ensures as_expected { printed.now ≡ expected.now → result ≡ AsExpected }
+    ensures differs { printed.now ≢ expected.now → result ≡ Differs }
 {
     if printed == expected {
         Verdict::AsExpected

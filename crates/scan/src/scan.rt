@@ -19,7 +19,7 @@ fn is_blank(b: u8) -> bool
 // A text, parted before its first byte that stops.
 pub fn split_before<F: Fn(&u8) -> bool>(text: &[u8], stops: F) -> (&[u8], &[u8])
     requires { F.IsAlwaysCallable stops }
-    ensures whole { result.0.now ++ result.1.now ≡ text.now }
+    ensures same { result.0.now ++ result.1.now ≡ text.now }
     ensures before { All (λ b. FnReturnsAt F.Fn stops b false) result.0.now }
     ensures stop { 0 < length result.1.now → HoldsAt (λ b. FnReturnsAt F.Fn stops b true) result.1.now 0 }
 {

@@ -1,5 +1,5 @@
 -- The fields of a line. Assumes nothing.
---   Field         what a field may be: a number up to a highest one, or a name
+--   Field         what a field may be: a number up to a highest one (`upto`), or a `name`
 --   bits8, bits16, bits32, bits64   the four widths
 --   then          goes on with a value, unless there is a reason against it (so no `if ..then ..else` here: `then` is that name's part)
 --   within        a number up to a highest one, or why it is none

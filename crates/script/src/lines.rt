@@ -38,8 +38,8 @@ impl<'a> Lines<'a> {
 
     // The next line, without its line feed; nothing at the end. It stands beside `next`, whose trait says less of what is left.
     pub fn next_line(&mut self) -> Option<&'a [u8]>
-        ensures line { MatchOption result (length self.old.rest.now ≡ 0) (λ line. (line.now ≡ line_of self.old.rest.now) × ((self.new.rest.now ≡ lines_after self.old.rest.now) × (length self.new.rest.now < length self.old.rest.now))) }
-        ensures end { length self.old.rest.now ≡ 0 → self.new.rest.now ≡ self.old.rest.now }
+        ensures value { MatchOption result (length self.old.rest.now ≡ 0) (λ line. (line.now ≡ line_of self.old.rest.now) × ((self.new.rest.now ≡ lines_after self.old.rest.now) × (length self.new.rest.now < length self.old.rest.now))) }
+        ensures same { length self.old.rest.now ≡ 0 → self.new.rest.now ≡ self.old.rest.now }
     {
         if self.rest.is_empty() {
             return None;

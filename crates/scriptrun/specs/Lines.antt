@@ -1,8 +1,13 @@
 -- The lines that a script prints: words and decimal numbers, as `line` of crate `scan` puts them together. Assumes nothing.
 --   reply_line     of line n of the script, a call that was made: the call's word and the reply
+--   place_words    a place as a word, if there is one
 --   refused_line   of a model that was refused: its number, and the place if it has one
 --   right, left    a column of a table: a number at its right end, a word at its left
+--   restriction_word   which flags restrict an account: none, own, second or both
 --   record_line    a row of the report's table: an account and its record; an empty word makes the two blanks before the restriction
+--   record_lines   a row for each account, from the account of this number on
+--   report_line    the first line of the report: how many accounts, the set, the month, and both volatilities
+--   heading        the names of the columns
 --   report_text    the report of what is held: market, heading, and a row for each account
 --   said_text      of what is said to line n, where this is held after it
 use Rattle.std.specs.Prelude.{ℕ, ◌+◌, ◌-◌, Bool, true, false, List, [], ◌∷◌, ◌++◌, length, replicate, Some, None, Ok, Err, Option, codes}

@@ -3,25 +3,23 @@
 --   holding          such a record of its five parts
 --   held             what a session holds
 --   first_held       at the start: 1 account, month 0, and a model whose numbers are all 0
---   opening_result   what an opening that brings its own tables is answered
 --   opened           after an opening: all begins anew but the model; a refused one changes nothing
 --   called           what a call answers and leaves, with the model in use
 --   after_call       after a call
 --   with_model       after another model is taken into use
 --   kept_tables      whether the tables have their lengths, and every record and place keeps its limits
-use Rattle.std.specs.Prelude.{ℕ, Bool, List, vec_items, Result}
+use Rattle.std.specs.Prelude.{ℕ, Bool, List, vec_items}
 use Rattle.models.specs.Meaning.{Meaning}
 use Rattle.owned.specs.Any.{any_of}
 use Rattle.modelfile.specs.Default.{zero_table}
-use Rattle.refusals.specs.declared.refusal.Refusal.{Refusal}
-use Rattle.refusals.specs.Refusals.{first_no, decided}
+use Rattle.refusals.specs.Refusals.{decided}
 use Rattle.tables.specs.declared.row.AccountRow.{AccountRow}
 use Rattle.tables.specs.declared.row.TradeRow.{TradeRow}
 use Rattle.tables.specs.Limits.{tables_keep}
 use Rattle.market.specs.declared.state.MarketState.{MarketState}
 use Rattle.rules.specs.declared.call.Call.{Call}
 use Rattle.rules.specs.Calls.{Outcome, outcome}
-use Rattle.rules.specs.Opening.{opened_market, opened_rows, opened_trades, opening_questions}
+use Rattle.rules.specs.Opening.{opened_market, opened_rows, opened_trades, opening_result}
 use Rattle.session.specs.declared.session.Session.{Session}
 
 pub record Held : Type 0 where
@@ -39,9 +37,6 @@ held s = holding s.house.accounts s.house.market.state (vec_items s.records) (ve
 
 abbrev pub first_held : Held
 first_held = holding 1 (opened_market 0) (opened_rows 1) (opened_trades 1) zero_table
-
-abbrev pub opening_result : ℕ → ℕ → Result (Unit {0}) Refusal
-opening_result n month = first_no (opening_questions n month (opened_rows n) (opened_trades n))
 
 abbrev pub opened : ℕ → ℕ → Held → Held
 opened n month h =

@@ -11,6 +11,7 @@ use Rattle.models.specs.declared.refusal.MakingRefusal.{MakingRefusal}
 use Rattle.modelfile.specs.Parts.{means, refused, malformed}
 use Rattle.modelfile.specs.Texts.{Gives}
 use Rattle.refusals.specs.Refusals.{result_number}
+use Rattle.rules.specs.Opening.{opening_result}
 use Rattle.script.specs.Commands.{command_of}
 use Rattle.script.specs.declared.command.Command.{Command}
 use Rattle.script.specs.declared.command.Command.TheVariants.{Open, Model, Call, Report}
@@ -18,7 +19,7 @@ use Rattle.script.specs.declared.reason.Reason.{Reason}
 use Rattle.script.specs.declared.reason.Reason.TheVariants.{NoFile, NotModel, NoMemory}
 use Rattle.session.specs.declared.said.Said.{Said}
 use Rattle.session.specs.declared.said.Said.TheVariants.{Nothing, Opened, Loaded, Refused, Replied, Report as Reported}
-use Rattle.session.specs.Held.{Held, opening_result, opened, called, after_call, with_model}
+use Rattle.session.specs.Held.{Held, opened, called, after_call, with_model}
 
 abbrev pub Reply : Type 0
 Reply = Result Said Reason

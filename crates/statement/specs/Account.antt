@@ -1,6 +1,7 @@
 -- What an entry of an account's file sets: the numbers of the entry stand in the place, and all else is as it was. Assumes nothing.
 --   with_flags, SetsFlags             both flags of an account
 --   with_lots, SetsLots               the lots of one security
+--   family_number                     the number of a family in a file
 --   with_levels, SetsLevels           the levels of one family
 --   with_volatility, SetsVolatility   the volatility of both families
 --   with_averages, SetsAverages       the averages of one family
@@ -8,6 +9,9 @@
 --   TradeEntry, AddsTrade             a trade of the numbers of an entry, after those before
 --   Gives                             the one number of an entry, as a field
 --   with_restricted, SetsRestricted   whether the house is restricted
+--   with_month, with_set, with_percent   the month, the set, the step-up of the market
+--   with_state, with_row              the market, the record of the account
+--   with_cash                         the cash of an account
 --   MarketEntry, AccountEntry, Entry  what an entry of the market, of the account, of the file sets, by its word
 use Rattle.std.specs.Prelude.{◌≡◌, ◌≢◌, ℕ, ◌<◌, Bool, Some, Ok, Result, List, [], ◌∷◌, ◌++◌, codes, length, slice_index, slice_set, vec_items}
 use Rattle.std.specs.Int.{from_bool}

@@ -1,9 +1,14 @@
 -- What a statement prints: words and decimal numbers, as `line` of crate `scan` puts them together. Assumes nothing.
+--   words             words with a blank (byte 32) after each
 --   model_line        the model's name and counts
---   benchmark_lines   a heading, and the figures of each benchmark
---   family_lines      a heading, and the figures of each family
+--   benchmark_heading, family_heading   the names of the figures of a benchmark, and of a family
+--   benchmark_lines   that heading, and the figures of each benchmark
+--   family_lines      that heading, and the figures of each family
 --   collateral_line   cash, and what the securities and both count for
---   account_line      what is owed and what stands against it, both flags after settling, and the restriction
+--   owed_words        what is owed, what stands against it, and what is short
+--   flags_line        both flags, and the restriction that they are
+--   account_line      what is owed, and the flags after settling
+--   figures_text      the lines of benchmarks, families, collateral and account
 --   statement_text    the statement of an account on a model, and an empty line
 use Rattle.std.specs.Prelude.{ℕ, ◌+◌, ◌*◌, Bool, List, [], ◌∷◌, ◌++◌, codes}
 use Rattle.std.specs.Fmt.{decimal}

@@ -2,6 +2,15 @@
 --   worked_line                       the line of a figure
 --   worked_tables, worked_trade       one rate and one tick value and no changes; a trade in MIBOR
 --   mibor_of, paid_of                 what trades in MIBOR come to in month 300; the initial margin of one that pays 100 lakh
+--   pair_of                           the initial margin of two, one that pays and one that receives
+--   initial_lines                     the initial margins
+--   marked_of, mark_lines             what one trade that pays 100 lakh at 6.5 per cent comes to; its mark and its credit
+--   loss_of, loss_line                the second highest of three losses
+--   tenths_of                         the volatility of a check, in tenths of a per cent
+--   worked_lots                       what ten lots of a security count for
+--   charge_lines                      both of these
+--   level_line, level_lines           a concentration level after a value is known, with an average of 1000; six of them
+--   flag_line, flag_lines             an own flag after an obligation is known, with 100 available; four of them
 --   model_lines, rule_lines           what is worked on a model, with the tail; what is worked on the rules of charges and flags
 --   worked_text                       all lines
 use Rattle.std.specs.Prelude.{ℕ, ◌+◌, Bool, true, false, List, [], ◌∷◌, ◌++◌, codes, pos, replicate, unsigned_abs, slice_index_or}

@@ -25,7 +25,7 @@ impl Input {
     pub fn empty(heap: Global) -> Input
         ensures state { result.state ≡ opened_market 0 }
         ensures row { result.row ≡ empty_row }
-        ensures free { result.restricted ≡ false }
+        ensures restricted { result.restricted ≡ false }
         ensures trades { result.trades.items ≡ [] }
     {
         Input {

@@ -1,6 +1,8 @@
 -- A test of every element: what it tells of one, and what keeps it.
-use Rattle.std.proofs.Common.{◌≡◌, ℕ, ◌<◌, Bool, true, List, ◌++◌, map, length, get_or, take, drop, set, replicate, filter}
+use Rattle.std.proofs.Common.{◌≡◌, ℕ, ◌<◌, Bool, true, ◌&&◌, ap, sym, ◌∙◌, List, [], ◌∷◌, ◌++◌, map, length, get_or, take, drop, set, replicate, filter}
 use Rattle.std.specs.List.{All, AllPass, list_all}
+use Rattle.std.proofs.Math.Bool.{and-true}
+use Rattle.std.proofs.lemmas.List.Folds.{list_all-append}
 use Rattle.std.proofs.lemmas.List.Elements.{All-weaker, All-get_or, All-set, All-filter, All-append, All-drop, All-take, All-map, All-replicate}
 use Rattle.std.proofs.lemmas.List.Sums.{AllPass-from_list_all, list_all-from_AllPass}
 
@@ -27,6 +29,9 @@ module _ {X : Type 0} (p : X → Bool) where
 
   pub list_all_append : (xs ys : List X) → list_all p xs ≡ true → list_all p ys ≡ true → list_all p (xs ++ ys) ≡ true
   list_all_append xs ys h k = by_each xs (xs ++ ys) (λ a. All-append passes xs ys a (AllPass-from_list_all p ys k)) h
+
+  pub list_all_push : (xs : List X) (x : X) (b : Bool) → b ≡ list_all p xs → (b && p x) ≡ list_all p (xs ++ (x ∷ []))
+  list_all_push xs x b e = ap (λ all. all && p x) e ∙ sym (list_all-append p xs (x ∷ []) ∙ ap (λ one. list_all p xs && one) (and-true (p x)))
 
   pub list_all_drop : (n : ℕ) (xs : List X) → list_all p xs ≡ true → list_all p (drop n xs) ≡ true
   list_all_drop n xs = by_each xs (drop n xs) (All-drop passes n xs)

@@ -1,4 +1,5 @@
 pub mod Alls
+mod Bits
 pub mod Books
 pub mod Facts
 pub mod Numbers

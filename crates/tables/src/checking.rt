@@ -1,21 +1,35 @@
 // Question 1: whether the two tables have the right lengths, and every account keeps its limits.
-ghost use Rattle.std.specs.Prelude.{◌≡◌, ◌&&◌, ◌*◌, ◌<◌, ◌≤◌, length, drop, slice_index_or};
+ghost use Rattle.std.specs.Prelude.{◌≡◌, ◌==◌, ◌&&◌, ◌*◌, ◌<◌, ◌≤◌, length, drop, slice_index_or};
 ghost use Rattle.std.specs.List.{list_all};
 ghost use Rattle.tables.specs.Books.{book, books_of, places_at, no_row, no_book};
 ghost use Rattle.tables.specs.Limits.{is_empty, places_keep, figures_keep, book_keeps, house_keeps, constituent_keeps, tables_keep};
 
 use super::limits::{each_keeps, holdings_keep};
-use super::row::{AccountRow, NO_TRADE, TradeRow};
+use super::row::{AccountRow, TradeRow};
 
 // The most that the obligation and the shortfall of the house, and of a constituent, may be.
 const HOUSE_MOST: u64 = 96_000_000_000_000_000;
 
 const CONSTITUENT_MOST: u64 = 3_000_000_000_000_000;
 
+// The bits that a place sets, its two halves over one another: none exactly where it is empty. Each half is put together as it lies in
+// the row, so the compiler reads it at once.
+fn bits(place: &TradeRow) -> u64
+    ensures { (result == 0) ≡ is_empty place.now }
+{
+    let first = place.number as u64
+        | (place.benchmark as u64) << 32
+        | (place.side as u64) << 40
+        | (place.maturity as u64) << 48;
+    let second = place.notional as u64 | (place.rate as u64) << 32;
+    first | second
+}
+
+// The bits of all places are gathered, and tested once: a test after each place would take several times as long.
 fn all_empty(places: &[TradeRow]) -> bool
     ensures { result ≡ list_all is_empty places.now }
 {
-    places.iter().all(|place| *place == NO_TRADE)
+    places.iter().fold(0, |all, place| all | bits(place)) == 0
 }
 
 // The 64 places are a slice and no array: they are a part of the caller's table, and an array would be a conversion that can fail.

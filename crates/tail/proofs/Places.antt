@@ -1,108 +1,64 @@
--- `placed`, by the place where the entry goes, and what a shift of the places makes of them.
-use Rattle.std.proofs.Common.{◌≡◌, ℕ, zero, suc, ◌+◌, ◌-◌, ◌<◌, ◌≤◌, min, Bool, true, false, cond, not, nat_lt, ◌⊎◌, inl, inr, List, [], ◌∷◌, ◌++◌, length, get_or, take, drop, set, sym, refl, ap, ap₂, ◌∙◌, append_assoc, arith, length-append, length-drop}
-use Rattle.std.specs.List.{position, position_or_len, copy_within}
-use Rattle.std.specs.Option.{unwrap_or}
-use Rattle.std.proofs.Math.Seq.{take-append-add}
-use Rattle.std.proofs.lemmas.Bool.{cases_lt, cond-true, cond-false, lt-ltb, le-ltb}
-use Rattle.std.proofs.lemmas.List.{take_more, take_all, take_at, take-take, drop-take, set_at, length-take-le}
-use Rattle.std.proofs.lemmas.List.Sums.{prefix_len-le-length}
+-- What an entry that is carried through the places makes of them: `placed`.
+use Rattle.std.proofs.Common.{◌≡◌, ℕ, zero, suc, ◌+◌, ◌<◌, Bool, true, false, cond, not, ◌||◌, List, [], ◌∷◌, ◌++◌, length, get_or, take, drop, set, sym, refl, ap, ap₂, ◌∙◌, append_assoc, arith, length-set}
+use Rattle.std.proofs.lemmas.Bool.{or_parts}
+use Rattle.std.proofs.lemmas.List.{take_all, take-take, take_more_set, drop_more, drop_all, drop-set-lt}
 use Rattle.tail.specs.Tail.{placed}
 
-module _ {X : Type 0} (ge : X → X → Bool) where
-  -- where x goes among ys
-  abbrev pub place_for : X → List X → ℕ
-  place_for x ys = position_or_len (λ y. not (ge y x)) ys
+module _ {X : Type 0} (ge : X → X → Bool) (item : X) where
+  -- what stands from a place on in the end, where these stand there now and one is carried to it
+  abbrev coming : Bool → X → List X → List X
+  coming below carried ys = cond below (carried ∷ ys) (placed ge item ys)
 
-  pub place_within : (x : X) (ys : List X) → place_for x ys ≤ length ys
-  place_within x ys = prefix_len-le-length (λ y. not (not (ge y x))) ys
+  -- n places are gone through, and now they hold these; below: the item has its place
+  pub record Carried (old now : List X) (n : ℕ) (below : Bool) (carried : X) : Type 0 where
+    pub len : length now ≡ length old
+    pub first : below ≡ false → carried ≡ item
+    pub parts : take n now ++ coming below carried (drop n now) ≡ placed ge item old
 
-  pub placed_at : (x : X) (ys : List X) → placed ge x ys ≡ take (place_for x ys) ys ++ (x ∷ drop (place_for x ys) ys)
-  placed_at x [] = refl
-  placed_at x (y ∷ ys) =
-      let i = place_for x ys in
-      elim (ge y x) as (λ b. cond b (y ∷ placed ge x ys) (x ∷ y ∷ ys) ≡ take (cond (not (not b)) (1 + i) 0) (y ∷ ys) ++ (x ∷ drop (cond (not (not b)) (1 + i) 0) (y ∷ ys))) [
-        | true ↦
-            let one : suc i ≡ 1 + i = omega arith in
-            ap (λ u. y ∷ u) (placed_at x ys) ∙ ap (λ k. take k (y ∷ ys) ++ (x ∷ drop k (y ∷ ys))) one
-        | false ↦ refl
+  pub carried_none : (old : List X) → Carried old old 0 false item
+  carried_none old = record { len = refl; first = λ e. refl; parts = refl }
+
+  step : (below : Bool) (carried here : X) (ys : List X) → (below ≡ false → carried ≡ item)
+      → cond (below || not (ge here item)) carried here ∷ coming (below || not (ge here item)) (cond (below || not (ge here item)) here carried) ys ≡ coming below carried (here ∷ ys)
+  step true carried here ys first = refl
+  step false carried here ys first =
+      elim (ge here item) as (λ b. cond (not b) carried here ∷ coming (not b) (cond (not b) here carried) ys ≡ cond b (here ∷ placed ge item ys) (item ∷ here ∷ ys)) [
+        | true ↦ refl
+        | false ↦ ap (λ z. z ∷ here ∷ ys) (first refl)
       ]
 
+  stays : (below : Bool) (carried here : X) → (below ≡ false → carried ≡ item) → (below || not (ge here item)) ≡ false → cond (below || not (ge here item)) here carried ≡ item
+  stays below carried here first e = ap (λ b. cond b here carried) e ∙ first (or_parts below (not (ge here item)) e).0
+
+  pub carried_more : (old now : List X) (n : ℕ) (below : Bool) (carried here : X) → n < length now → here ≡ get_or now n here → Carried old now n below carried
+      → Carried old (set now n (cond (below || not (ge here item)) carried here)) (n + 1) (below || not (ge here item)) (cond (below || not (ge here item)) here carried)
+  carried_more old now n below carried here lt read h =
+      let b = below || not (ge here item) in
+      let v = cond b carried here in
+      let on = cond b here carried in
+      let ys = drop (n + 1) now in
+      record {
+        len = length-set now n v ∙ h.len;
+        first = stays below carried here h.first;
+        parts =
+            ap₂ (λ u w. u ++ coming b on w) (take_more_set now n v lt) (drop-set-lt (n + 1) now n v (omega arith))
+            ∙ append_assoc (take n now) (v ∷ []) (coming b on ys)
+            ∙ ap (λ u. take n now ++ u) (step below carried here ys h.first)
+            ∙ ap (λ z. take n now ++ coming below carried (z ∷ ys)) read
+            ∙ ap (λ u. take n now ++ coming below carried u) (sym (drop_more now n here lt))
+            ∙ h.parts;
+      }
+
+  last : (below : Bool) (carried : X) → (below ≡ false → carried ≡ item) → carried ∷ [] ≡ coming below carried []
+  last true carried first = refl
+  last false carried first = ap (λ z. z ∷ []) (first refl)
+
+  pub carried_all : (old now : List X) (n : ℕ) (below : Bool) (carried : X) → n ≡ length now → Carried old now n below carried → now ++ carried ∷ [] ≡ placed ge item old
+  carried_all old now n below carried e h =
+      let none : drop n now ≡ [] = drop_all n now (omega arith) in
+      ap₂ (λ u w. u ++ w) (sym (take_all n now (omega arith))) (last below carried h.first ∙ ap (λ u. coming below carried u) (sym none)) ∙ h.parts
+
 module _ {X : Type 0} where
-  -- the search for it, where it may find none
-  pub found : (p : X → Bool) (ys : List X) (f : ℕ) → length ys ≡ f → unwrap_or (position p ys) f ≡ position_or_len p ys
-  found p ys f e = go (cases_lt (position_or_len p ys) (length ys))
-    where
-      go : (position_or_len p ys < length ys) ⊎ (length ys ≤ position_or_len p ys) → unwrap_or (position p ys) f ≡ position_or_len p ys
-      go (inl l) = ap (λ o. unwrap_or o f) (cond-true (nat_lt (position_or_len p ys) (length ys)) _ _ (lt-ltb _ _ l))
-      go (inr l) =
-          ap (λ o. unwrap_or o f) (cond-false (nat_lt (position_or_len p ys) (length ys)) _ _ (le-ltb _ _ l))
-          ∙ (let top = prefix_len-le-length (λ y. not (p y)) ys in omega arith)
-
-  -- the places from i on shifted by one, x put at i, and what then stands in the first e
-  shifted : (ks : List X) (i e : ℕ) (x : X) → i < e → e ≤ length ks → take e (set (copy_within ks i (e - 1) (i + 1)) i x) ≡ take i ks ++ (x ∷ take (e - 1 - i) (drop i ks))
-  shifted ks i e x lt le =
-      let p = take i ks in
-      let d = get_or ks i x in
-      let m = take (e - 1 - i) (drop i ks) in
-      let r = drop (i + 1 + (e - 1 - i)) ks in
-      let lp : length p ≡ i = length-take-le i ks (omega arith) in
-      let lm : length m ≡ e - 1 - i = length-take-le (e - 1 - i) (drop i ks) (omega (arith, length-drop i ks)) in
-      ap (λ u. take e (set u i x)) (append_assoc (take (i + 1) ks) m r)
-      ∙ ap (λ u. take e (set (u ++ (m ++ r)) i x)) (take_more ks i x (omega arith))
-      ∙ ap (λ u. take e (set u i x)) (append_assoc p (d ∷ []) (m ++ r))
-      ∙ ap (take e) (set_at p d (m ++ r) x i lp)
-      ∙ ap (take e) (sym (append_assoc p (x ∷ m) r))
-      ∙ take_at (p ++ (x ∷ m)) r e (omega (arith, length-append p (x ∷ m), lp, lm))
-
-  -- x put in among the first f of them, as far as n places go
-  put_in : (ks : List X) (i f n : ℕ) (x : X) → f ≤ n → n ≤ length ks → i ≤ f → take n (take i (take f ks) ++ (x ∷ drop i (take f ks))) ≡ take n (take i ks ++ (x ∷ take (f - i) (drop i ks)))
-  put_in ks i f n x a b c =
-      let e : f ≡ i + (f - i) = omega arith in
-      ap₂ (λ u v. take n (u ++ (x ∷ v))) (take-take i f ks c) (ap (λ k. drop i (take k ks)) e ∙ drop-take i (f - i) ks)
-
-  -- x put at its place i among the first f, of which a place more is then filled, if there is one
-  module _ (ge : X → X → Bool) (ks : List X) (i f e : ℕ) (x : X) (le : f ≤ length ks) (at : i ≡ unwrap_or (position (λ y. not (ge y x)) (take f ks)) f) (end : e ≡ min (f + 1) (length ks)) where
-    abbrev n : ℕ
-    n = length ks
-
-    abbrev p : List X
-    p = take i ks
-
-    abbrev rest : List X
-    rest = take (f - i) (drop i ks)
-
-    place : i ≡ place_for ge x (take f ks)
-    place = at ∙ found (λ y. not (ge y x)) (take f ks) f (length-take-le f ks le)
-
-    within : i ≤ f
-    within = omega (arith, place, place_within ge x (take f ks), length-take-le f ks le)
-
-    lp : length p ≡ i
-    lp = length-take-le i ks (omega (arith, within))
-
-    whole : take n (p ++ (x ∷ rest)) ≡ take n (placed ge x (take f ks))
-    whole = sym (put_in ks i f n x le (omega arith) within) ∙ ap (λ j. take n (take j (take f ks) ++ (x ∷ drop j (take f ks)))) place ∙ ap (take n) (sym (placed_at ge x (take f ks)))
-
-    pub put_inside : i < e → take e (set (copy_within ks i (e - 1) (i + 1)) i x) ≡ take n (placed ge x (take f ks))
-    put_inside lt = shifted ks i e x lt (omega arith) ∙ go (cases_lt f n) ∙ whole
-      where
-        go : (f < n) ⊎ (n ≤ f) → p ++ (x ∷ take (e - 1 - i) (drop i ks)) ≡ take n (p ++ (x ∷ rest))
-        go (inl l) =
-            let k : e - 1 - i ≡ f - i = omega arith in
-            ap (λ j. p ++ (x ∷ take j (drop i ks))) k
-            ∙ sym (take_all n (p ++ (x ∷ rest)) (omega (arith, within, length-append p (x ∷ rest), lp, length-take-le (f - i) (drop i ks) (omega (arith, length-drop i ks)))))
-        go (inr l) =
-            let k : n ≡ length p + suc (e - 1 - i) = omega (arith, lp) in
-            ap (λ u. p ++ (x ∷ u)) (sym (take-take (e - 1 - i) (f - i) (drop i ks) (omega arith)))
-            ∙ sym (ap (λ j. take j (p ++ (x ∷ rest))) k ∙ take-append-add p (x ∷ rest) (suc (e - 1 - i)))
-
-    -- none is left for it
-    pub put_nowhere : e ≤ i → take e ks ≡ take n (placed ge x (take f ks))
-    put_nowhere none =
-        let j : e ≡ i = omega (arith, within) in
-        let k : length p ≡ n = omega (arith, lp, within) in
-        ap (λ m. take m ks) j ∙ sym (take_at p (x ∷ rest) n k) ∙ whole
-
   short : (n : ℕ) (y : X) (ys : List X) → take n (y ∷ take n ys) ≡ take n (y ∷ ys)
   short zero y ys = refl
   short (suc n) y ys = ap (λ u. y ∷ u) (take-take n (suc n) ys (omega arith))

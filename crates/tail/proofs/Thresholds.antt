@@ -1,5 +1,5 @@
 -- What a threshold rules out: where at least k entries reach it, the k highest are among those that do.
-use Rattle.std.proofs.Common.{◌≡◌, ℕ, zero, suc, ◌+◌, ◌-◌, ◌*◌, ◌/◌, ◌<◌, ◌≤◌, Bool, true, false, cond, List, [], ◌∷◌, ◌++◌, length, get_or, take, drop, fold, count_by, Option, None, Some, IfSome, IsSomeAnd, MatchOption, ◌⊎◌, inl, inr, ⊎_elim, sym, refl, ap, ◌∙◌, subst, true≢false, arith, append_assoc, length-append}
+use Rattle.std.proofs.Common.{◌≡◌, ℕ, zero, suc, ◌+◌, ◌-◌, ◌*◌, ◌/◌, ◌<◌, ◌≤◌, Bool, true, false, cond, List, [], ◌∷◌, ◌++◌, length, get_or, take, drop, fold, count_by, Option, None, Some, IfSome, IsSomeAnd, MatchOption, ◌⊎◌, inl, inr, ⊎_elim, sym, refl, ap, ◌∙◌, subst, true≢false, arith, append_assoc, length-append, length-drop}
 use denote.Ref.{Bor}
 use denote.Param.Members.{Shared}
 use Rattle.std.specs.Fn.{FnReturnsAt}
@@ -7,7 +7,7 @@ use Rattle.std.specs.List.{AllByRecursion, ContainsAt, filter}
 use Rattle.std.proofs.Math.Nat.{mul-div-le, mul-le-mul_right, add-mul}
 use Rattle.std.proofs.Math.Seq.{take-nil}
 use Rattle.std.proofs.lemmas.Bool.{cases_lt, false_from_ne_true}
-use Rattle.std.proofs.lemmas.List.{append-nil, take_all}
+use Rattle.std.proofs.lemmas.List.{append-nil, take_all, take-take, take-append-drop}
 use Rattle.std.proofs.lemmas.List.Elements.{filter-append}
 use Rattle.std.proofs.lemmas.List.Sums.{length-filter, count_by-le-length, sum_by-append}
 use Rattle.std.proofs.ByRecursion.{All-weaker, all_has_itself}
@@ -191,34 +191,30 @@ module _ {X : Type 0} {ge : X → X → Bool} (o : Orders ge) (xs : List X) wher
       }
 
 module _ {X : Type 0} where
-  two_and_others : (ys : List X) (x y : X) → 2 ≤ length ys → x ≡ get_or ys 0 x → y ≡ get_or ys 1 y → ys ≡ x ∷ y ∷ take (length ys - 2) (drop 2 ys)
-  two_and_others [] x y le first second = absurd (omega arith)
-  two_and_others (a ∷ []) x y le first second = absurd (omega arith)
-  two_and_others (a ∷ b ∷ ys) x y le first second =
-      ap (λ z. z ∷ b ∷ ys) (sym first) ∙ ap (λ z. x ∷ z ∷ ys) (sym second) ∙ ap (λ u. x ∷ y ∷ u) (sym (take_all (suc (suc (length ys)) - 2) ys (omega arith)))
+  all_append : (P : X → Type 0) (xs ys : List X) → AllByRecursion P xs → AllByRecursion P ys → AllByRecursion P (xs ++ ys)
+  all_append P [] ys h k = k
+  all_append P (x ∷ xs) ys h k = (h.0, all_append P xs ys h.1 k)
 
-  all_push : (P : X → Type 0) (ys : List X) (x : X) → AllByRecursion P ys → P x → AllByRecursion P (ys ++ x ∷ [])
-  all_push P [] x h k = (k, tt)
-  all_push P (y ∷ ys) x h k = (h.0, all_push P ys x h.1 k)
+  -- the first four that are left
+  pub first_four : (ys : List X) (a b c d : X) → 4 ≤ length ys → a ≡ get_or ys 0 a → b ≡ get_or ys 1 b → c ≡ get_or ys 2 c → d ≡ get_or ys 3 d → take 4 ys ≡ a ∷ b ∷ c ∷ d ∷ []
+  first_four [] a b c d le p q r s = absurd (omega arith)
+  first_four (_ ∷ []) a b c d le p q r s = absurd (omega arith)
+  first_four (_ ∷ _ ∷ []) a b c d le p q r s = absurd (omega arith)
+  first_four (_ ∷ _ ∷ _ ∷ []) a b c d le p q r s = absurd (omega arith)
+  first_four (w ∷ x ∷ y ∷ z ∷ ys) a b c d le p q r s = rw (p, q, r, s)
 
-  all_two : (P : X → Type 0) (ys : List X) (x y : X) → AllByRecursion P ys → P x → P y → AllByRecursion P (ys ++ x ∷ y ∷ [])
-  all_two P [] x y h k l = (k, (l, tt))
-  all_two P (z ∷ ys) x y h k l = (h.0, all_two P ys x y h.1 k l)
+  first_some : (ys : List X) (a b c d : X) (n : ℕ) → n ≤ 3 → take 4 ys ≡ a ∷ b ∷ c ∷ d ∷ [] → take n (a ∷ b ∷ c ∷ []) ≡ take n ys
+  first_some ys a b c d n le e = take-take n 3 (a ∷ b ∷ c ∷ d ∷ []) le ∙ ap (take n) (sym e) ∙ take-take n 4 ys (omega arith)
 
-  -- a loop that passes over what fails: one entry more
-  pub gone_more : (P : X → Type 0) (xs rest : List X) (x : X) → 1 ≤ length rest → x ≡ get_or rest 0 x → P x → (gone : List X) × (xs ≡ gone ++ rest) × AllByRecursion P gone
-      → (gone : List X) × (xs ≡ gone ++ take (length rest - 1) (drop 1 rest)) × AllByRecursion P gone
-  gone_more P xs rest x le read fails h =
-      (h.0 ++ x ∷ [], h.1 ∙ ap (λ u. h.0 ++ u) (first_and_others rest x le read) ∙ sym (append_assoc h.0 (x ∷ []) (take (length rest - 1) (drop 1 rest))), all_push P h.0 x h.2 fails)
-
-  -- two more
-  pub gone_two : (P : X → Type 0) (xs rest : List X) (x y : X) → 2 ≤ length rest → x ≡ get_or rest 0 x → y ≡ get_or rest 1 y → P x → P y → (gone : List X) × (xs ≡ gone ++ rest) × AllByRecursion P gone
-      → (gone : List X) × (xs ≡ gone ++ take (length rest - 2) (drop 2 rest)) × AllByRecursion P gone
-  gone_two P xs rest x y le first second fails fails_too h = (
-    h.0 ++ x ∷ y ∷ [],
-    h.1 ∙ ap (λ u. h.0 ++ u) (two_and_others rest x y le first second) ∙ sym (append_assoc h.0 (x ∷ y ∷ []) (take (length rest - 2) (drop 2 rest))),
-    all_two P h.0 x y h.2 fails fails_too,
-  )
+  -- a loop that passes over what fails: the first n that are left go
+  pub gone_more : (P : X → Type 0) (xs rest : List X) (n : ℕ) → n ≤ length rest → AllByRecursion P (take n rest) → (gone : List X) × (xs ≡ gone ++ rest) × AllByRecursion P gone
+      → (gone : List X) × (xs ≡ gone ++ take (length rest - n) (drop n rest)) × AllByRecursion P gone
+  gone_more P xs rest n le fail h =
+      let after : take (length rest - n) (drop n rest) ≡ drop n rest = take_all (length rest - n) (drop n rest) (omega (arith, length-drop n rest)) in (
+        h.0 ++ take n rest,
+        h.1 ∙ ap (λ u. h.0 ++ u) (sym (take-append-drop n rest)) ∙ sym (append_assoc h.0 (take n rest) (drop n rest)) ∙ ap (λ u. (h.0 ++ take n rest) ++ u) (sym after),
+        all_append P h.0 (take n rest) h.2 fail,
+      )
 
 module _ {X : Type 0} (ge : X → X → Bool) where
   fold_among : (P : X → Type 0) (x : X) (xs : List X) → P x → AllByRecursion P xs → P (fold (λ a b. cond (ge a b) a b) x xs)
@@ -233,6 +229,22 @@ module _ {X : Type 0} (ge : X → X → Bool) where
       let q = some.1 in
       let all : AllByRecursion (ContainsAt xs) (q.0 ∷ q.1) = subst (AllByRecursion (ContainsAt xs)) (sym e ∙ q.2) (all_has_itself xs) in
       subst (ContainsAt xs) (sym (q.3 (λ a b. cond (ge a b) a b) acts)) (fold_among (ContainsAt xs) q.0 q.1 all.0 all.1)
+
+-- of three entries, those before the first that does not fail, and how many they are
+before_three : {X : Type 0} (P : X → Type 0) (x y z : X) (a b c : Bool) → (a ≡ false → P x) → (b ≡ false → P y) → (c ≡ false → P z)
+    → (cond a 0 (cond b 1 (cond c 2 3)) ≤ 3) × AllByRecursion P (take (cond a 0 (cond b 1 (cond c 2 3))) (x ∷ y ∷ z ∷ []))
+before_three P x y z true b c h k l = (omega arith, tt)
+before_three P x y z false true c h k l = (omega arith, (h refl, tt))
+before_three P x y z false false true h k l = (omega arith, (h refl, (k refl, tt)))
+before_three P x y z false false false h k l = (omega arith, (h refl, (k refl, (l refl, tt))))
+
+-- the same of the first four that are left
+pub before_wanted : {X : Type 0} (P : X → Type 0) (ys : List X) (x y z last : X) (a b c : Bool) (n : ℕ) → n ≡ cond a 0 (cond b 1 (cond c 2 3)) → take 4 ys ≡ x ∷ y ∷ z ∷ last ∷ [] → (a ≡ false → P x) → (b ≡ false → P y) → (c ≡ false → P z)
+    → (n ≤ 3) × AllByRecursion P (take n ys)
+before_wanted P ys x y z last a b c n is four h k l =
+    let three = before_three P x y z a b c h k l in
+    let le : n ≤ 3 = omega (arith, is, three.0) in
+    (le, subst (AllByRecursion P) (first_some ys x y z last n le four) (subst (λ m. AllByRecursion P (take m (x ∷ y ∷ z ∷ []))) (sym is) three.1))
 
 -- what a call at a reference gave
 pub fails_at : {F X : Type 0} (g : Shared F (Bor X × Unit {0}) Bool) (f : F) (p : Bor X) (b : Bool) → g.post f (p, tt) b → b ≡ false → FnReturnsAt g f p.now false

@@ -1,4 +1,5 @@
--- Ratios compared by cross multiplication chain.
+-- Ratios compared by cross multiplication.
+-- cross_chain: they chain: what is at least the next is at least what comes after that.
 use Rattle.std.specs.Prelude.{ℕ, ◌*◌, ◌<◌, ◌≤◌}
 use Rattle.std.proofs.Common.{mul_right_comm, mul-le-mul_right, le_of_mul-le-mul_right, arith}
 

@@ -1,8 +1,8 @@
 // The keeper of the k highest: as many places as entries are to be kept, filled from the highest down.
 // A threshold is found first, which at least k entries reach: what does not reach it never comes to the places.
-ghost use Rattle.std.specs.Prelude.{◌≡◌, ◌+◌, ◌-◌, ◌≤◌, ◌<◌, ◌⊎◌, min, not, false, cond, List, [], ◌∷◌, ◌++◌, length, take, IfSome, IsSomeAnd, MatchOption, slice_index_or};
+ghost use Rattle.std.specs.Prelude.{◌≡◌, ◌+◌, ◌-◌, ◌≤◌, ◌<◌, ◌⊎◌, min, false, cond, List, [], ◌∷◌, ◌++◌, length, take, IfSome, IsSomeAnd, MatchOption, slice_index_or};
 ghost use Rattle.std.specs.Fn.{FnReturnsAt};
-ghost use Rattle.std.specs.List.{position, AllByRecursion, ContainsAt};
+ghost use Rattle.std.specs.List.{AllByRecursion, ContainsAt};
 ghost use Rattle.tail.specs.Tail.{Holds, placed, ranked, count_at_least, Kth, Short};
 
 use super::order::Ranked;
@@ -41,30 +41,52 @@ fn threshold<T: Ranked + Copy>(entries: &[T], k: usize) -> Option<T>
     Some(least)
 }
 
-// Passes over entries that are not `wanted`. What is left begins with the first that is, or is one last entry that was not asked, or
-// nothing. The loop takes two at a time: by `position`, which takes one, a row takes 12 per cent longer.
+// How many of three tests failed before the first that did not.
+fn failed(x: bool, y: bool, z: bool) -> usize
+    ensures { result ≡ cond x 0 (cond y 1 (cond z 2 3)) }
+{
+    if x {
+        0
+    } else if y {
+        1
+    } else if z {
+        2
+    } else {
+        3
+    }
+}
+
+// Passes over entries that are not `wanted`. What is left begins with the first that is, or is fewer than four that were not asked, or
+// nothing. Four are asked, and then there is one branch: by `position`, which takes one at a time, a row of changes takes 40 per cent longer.
 fn skip_to<T, F: Fn(&T) -> bool>(entries: &[T], wanted: F) -> &[T]
     requires { F.IsAlwaysCallable wanted }
     ensures { (gone : List T) × (entries.now ≡ gone ++ result.now) × AllByRecursion (λ y. FnReturnsAt F.Fn wanted y false) gone }
 {
     let mut rest = entries;
-    while let [x, y, others @ ..] = rest {
-        if wanted(x) {
-            return rest;
-        }
-        if wanted(y) {
-            return &rest[1..];
+    while let [x, y, z, last, others @ ..] = rest {
+        let (x, y, z, last) = (wanted(x), wanted(y), wanted(z), wanted(last));
+        if x | y | z | last {
+            return &rest[failed(x, y, z)..];
         }
         rest = others;
     }
     rest
 }
 
-// Where the first of `kept` stands that is below `item`.
-fn first_below<T: Ranked + Copy>(kept: &[T], item: T) -> Option<usize>
-    ensures { result ≡ position (λ y. not (T.reaches y item)) kept.now }
+// Puts `item` in its place among those that are kept, which fall, and gives back what then comes behind all of them. No branch hangs on
+// where that place is, which a processor cannot foretell: by a search for it and a shift of the rest, a row of changes takes 25 per cent longer.
+fn carry<T: Ranked + Copy>(kept: &mut [T], item: T) -> T
+    ensures { kept.new ++ result ∷ [] ≡ placed T.reaches item kept.old }
 {
-    kept.iter().position(|y| !y.at_least(&item))
+    let mut carried = item;
+    let mut is_below = false;
+    for place in kept {
+        let here = *place;
+        is_below |= !here.at_least(&item);
+        *place = if is_below { carried } else { here };
+        carried = if is_below { here } else { carried };
+    }
+    carried
 }
 
 // Places that a caller lends, since no heap is used here; the first `filled` of them are in use. That the places stay the same, of the
@@ -90,20 +112,18 @@ impl<'a, T: Ranked + Copy> Keeper<'a, T> {
 
     // Puts `item` in its place among the entries that are kept, which fall. The lowest goes where no place is left.
     fn put(&mut self, item: T)
-        ensures name { self.new.places.ghost_name ≡ self.old.places.ghost_name }
+        ensures same { self.new.places.ghost_name ≡ self.old.places.ghost_name }
         ensures len { length self.new.places.now ≡ length self.old.places.now }
-        ensures count { self.new.filled ≡ min (self.old.filled + 1) (length self.old.places.now) }
-        ensures top { take self.new.filled self.new.places.now ≡ take (length self.old.places.now) (placed T.reaches item (take self.old.filled self.old.places.now)) }
+        ensures filled { self.new.filled ≡ min (self.old.filled + 1) (length self.old.places.now) }
+        ensures places { take self.new.filled self.new.places.now ≡ take (length self.old.places.now) (placed T.reaches item (take self.old.filled self.old.places.now)) }
     {
         let filled = self.filled;
         let places = &mut *self.places;
-        let at = first_below(&places[..filled], item).unwrap_or(filled);
-        let end = filled.saturating_add(1).min(places.len());
-        if at < end {
-            places.copy_within(at..end - 1, at + 1);
-            places[at] = item;
+        let lowest = carry(&mut places[..filled], item);
+        if filled < places.len() {
+            places[filled] = lowest;
+            self.filled = filled + 1;
         }
-        self.filled = end;
     }
 
     // Passes over entries that change nothing of what is kept at the end: while a place is free, those that do not reach the threshold
@@ -118,10 +138,10 @@ impl<'a, T: Ranked + Copy> Keeper<'a, T> {
         }
     }
 
-    // Keeps the highest of `entries`. By a `for` over those that reach the threshold, each of which is asked once more, a row takes 18
-    // per cent longer.
+    // Keeps the highest of `entries`. By a `for` over those that reach the threshold, each of which is asked once more, a row of changes
+    // takes 90 per cent longer.
     fn of(entries: &[T], places: &'a mut [T]) -> Keeper<'a, T>
-        ensures name { result.places.ghost_name ≡ places.entry.ghost_name }
+        ensures same { result.places.ghost_name ≡ places.entry.ghost_name }
         ensures len { length result.places.now ≡ length places.entry.now }
         ensures holds { Holds T.reaches entries.now result.filled result.places.now }
     {
@@ -145,7 +165,7 @@ pub fn keep_all<T: Ranked + Copy>(entries: &[T], places: &mut [T]) -> usize
 
 // The k-th highest of `entries`, where k is how many places there are; none where there are fewer entries, or no place.
 pub fn kth_highest<T: Ranked + Copy>(entries: &[T], places: &mut [T]) -> Option<T>
-    ensures kth { MatchOption result (Short (length places.old) entries.now) (λ l. Kth T.reaches (length places.old) entries.now l) }
+    ensures words { MatchOption result (Short (length places.old) entries.now) (λ l. Kth T.reaches (length places.old) entries.now l) }
     ensures value { MatchOption result (Short (length places.old) entries.now) (λ l. (d : T) → l ≡ slice_index_or (ranked T.reaches entries.now) (length places.old - 1) d) }
 {
     Keeper::of(entries, places).lowest()

@@ -32,7 +32,7 @@ impl Ratio {
 
     pub fn den(self) -> u32
         ensures value { result ≡ self.den }
-        ensures some { 1 ≤ result }
+        ensures bound { 1 ≤ result }
     {
         self.den
     }

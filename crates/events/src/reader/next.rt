@@ -32,7 +32,7 @@ impl<'a> Reader<'a> {
     // The next record, none at the end, or a fault. A record is passed; the end and a fault leave the reader where it is,
     // so that it is no `Iterator`: after a fault one would not end.
     pub fn next(&mut self) -> Result<Option<Event>, Fault>
-        ensures step { result ≡ step_at self.old.bytes.now self.old.place self.old.count }
+        ensures value { result ≡ step_at self.old.bytes.now self.old.place self.old.count }
         ensures bytes { self.new.bytes.now ≡ self.old.bytes.now }
         ensures place { self.new.place ≡ self.old.place + size_of result }
         ensures count { self.new.count ≡ self.old.count + records_in result }

@@ -102,7 +102,7 @@ fn join_benchmarks(
     requires gross { first.gross + second.gross ≤ 1000000000000000 }
     ensures levels { (result.levels.initial ≤ 2) × (result.levels.gross ≤ 2) }
     ensures value { result ≡ family_from family levels first second }
-    ensures bound { result.obligation ≤ 3 * both_initial first second + (first.loss + second.loss) }
+    ensures obligation { result.obligation ≤ 3 * both_initial first second + (first.loss + second.loss) }
 {
     let initial = first.risk.initial + second.risk.initial;
     let gross = first.gross + second.gross;

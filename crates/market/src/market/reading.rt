@@ -29,7 +29,7 @@ impl Market {
     }
 
     pub fn state(&self) -> &MarketState
-        ensures state { result.now ≡ self.now.state }
+        ensures value { result.now ≡ self.now.state }
         ensures keeps { market_keeps result.now ≡ true }
     {
         &self.state

@@ -45,7 +45,7 @@ impl MarginModel for SingleModel {
         }
     }
 
-    fn changes(&self, set: u32, benchmark: u32, residual: u32, room: &mut [i32]) {
+    fn changes(&self, set: u32, benchmark: u32, residual: u32, room: &mut [i32]) -> Option<&[i32]> {
         match self {
             SingleModel::Table(m) => m.changes(set, benchmark, residual, room),
             SingleModel::Knots(m) => m.changes(set, benchmark, residual, room),
@@ -93,7 +93,7 @@ impl MarginModel for AnyModel {
         }
     }
 
-    fn changes(&self, set: u32, benchmark: u32, residual: u32, room: &mut [i32]) {
+    fn changes(&self, set: u32, benchmark: u32, residual: u32, room: &mut [i32]) -> Option<&[i32]> {
         match self {
             AnyModel::One(m) => m.changes(set, benchmark, residual, room),
             AnyModel::Two(m) => m.changes(set, benchmark, residual, room),

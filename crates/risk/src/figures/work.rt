@@ -5,8 +5,8 @@ ghost use Rattle.risk.specs.Losses.{AtRisk, OneAtRisk};
 ghost use Rattle.risk.specs.Initial.{risk_of};
 
 use super::super::initial::{minimum_margin, spread_charge, step_up};
-use super::super::losses::Scratch;
 use super::super::quotes::Quotes;
+use super::super::sums::Sums;
 use super::RiskFigures;
 use market::market::Market;
 use models::model::MarginModel;
@@ -18,19 +18,21 @@ impl<'a, M: MarginModel> Quotes<'a, M> {
         requires { percent ≤ 100 }
         ensures value { result ≡ risk_of (M.meaning self.now.model.now) self.now.day percent trades.entry.trades.now }
         ensures words { AtRisk (M.meaning self.now.model.now) self.now.day trades.entry.trades.now result.whole }
-        ensures bound { result.initial ≤ 4800000000000 * length trades.entry.trades.now }
+        ensures initial { result.initial ≤ 4800000000000 * length trades.entry.trades.now }
     {
         if trades.rows().is_empty() {
             return RiskFigures::default();
         }
-        let mut scratch = Scratch::new();
-        let whole = self.value_at_risk(trades, &mut scratch);
-        let sums = self.sums(trades, whole, &mut scratch);
-        let spread = spread_charge(sums.residuals, sums.halfyears, whole);
+        let Sums {
+            residuals,
+            halfyears,
+            whole,
+        } = self.sums(trades);
+        let spread = spread_charge(residuals, halfyears, whole);
         let minimum = minimum_margin(self.day, trades);
         RiskFigures {
-            residuals: sums.residuals,
-            halfyears: sums.halfyears,
+            residuals,
+            halfyears,
             whole,
             spread,
             minimum,
@@ -48,7 +50,7 @@ pub fn risk_figures<M: MarginModel>(
 ) -> RiskFigures
     ensures value { result ≡ risk_of (M.meaning model.now) market.now.state.day market.now.state.percent trades.entry.trades.now }
     ensures words { AtRisk (M.meaning model.now) market.now.state.day trades.entry.trades.now result.whole }
-    ensures bound { result.initial ≤ 4800000000000 * length trades.entry.trades.now }
+    ensures initial { result.initial ≤ 4800000000000 * length trades.entry.trades.now }
 {
     let state = market.state();
     let quotes = Quotes {

@@ -3,7 +3,8 @@ ghost use Rattle.std.specs.Prelude.{◌≡◌, true, IfOk, MatchResult};
 ghost use Rattle.modelfile.specs.Parts.{means};
 ghost use Rattle.modelfile.specs.Texts.{Gives, UnlessMemory};
 ghost use Rattle.refusals.specs.Refusals.{result_number};
-ghost use Rattle.session.specs.Held.{held, first_held, opening_result, opened, called, after_call, with_model, kept_tables};
+ghost use Rattle.rules.specs.Opening.{opening_result};
+ghost use Rattle.session.specs.Held.{held, first_held, opened, called, after_call, with_model, kept_tables};
 
 use super::Session;
 use engine::answer::answer;
@@ -67,7 +68,7 @@ impl Session {
 
     // Takes the model of a text into use. A text that gives none changes nothing.
     pub fn take_model(&mut self, heap: Global, text: &[u8]) -> Result<(), LoadRefusal>
-        ensures given { MatchResult result (λ _. Gives text.now (means (held self.new).model)) (λ e. UnlessMemory e (λ a. Gives text.now a)) }
+        ensures answer { MatchResult result (λ _. Gives text.now (means (held self.new).model)) (λ e. UnlessMemory e (λ a. Gives text.now a)) }
         ensures after { MatchResult result (λ _. held self.new ≡ with_model (held self.old) (held self.new).model) (λ _. held self.new ≡ held self.old) }
     {
         self.model = load(heap, text)?;

@@ -28,7 +28,7 @@ impl Account {
     }
 
     pub fn row(&self) -> AccountRow
-        ensures row { result ≡ self.now.row }
+        ensures value { result ≡ self.now.row }
         ensures keeps { holdings_keep result ≡ true }
     {
         self.row

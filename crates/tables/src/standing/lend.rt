@@ -28,8 +28,8 @@ impl<'a> StandingTrades<'a> {
     }
 
     pub fn rows(self) -> &'a [TradeRow]
-        ensures rows { result.now ≡ self.entry.trades.now }
-        ensures stand { trades_stand result.now ≡ true }
+        ensures value { result.now ≡ self.entry.trades.now }
+        ensures keeps { trades_stand result.now ≡ true }
     {
         self.trades
     }

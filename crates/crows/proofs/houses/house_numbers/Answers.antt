@@ -19,7 +19,7 @@ same_state s o f rows eo ef er =
 
 pub returns-clause-market : goal.returns-clause-market
 returns-clause-market c =
-    same_state c.state-state.result.now c.family_numbers.result c.family_numbers-2.result c.securities_numbers.result c.family_numbers.ensures.same c.family_numbers-2.ensures.same c.securities_numbers.ensures ∙ c.state-state.ensures.state
+    same_state c.state-state.result.now c.family_numbers.result c.family_numbers-2.result c.securities_numbers.result c.family_numbers.ensures.same c.family_numbers-2.ensures.same c.securities_numbers.ensures ∙ c.state-state.ensures.value
 
 pub returns-clause-keeps : goal.returns-clause-keeps
 returns-clause-keeps c =

@@ -63,7 +63,7 @@ returns g c =
     let all : take n es ≡ es = take_all n es (omega (arith, whole)) in
     record {
       accounts = c.loop-i.invariant.0;
-      count = omega (arith, c.min-count.ensures);
+      value = omega (arith, c.min-count.ensures);
       answers = subst (λ (xs : List Event). take n c.loop-i.answers ≡ replies m s xs) all (subst (λ (r : ℕ). take r c.loop-i.answers ≡ replies m s (take r es)) end c.loop-i.invariant.3);
       rest = subst (λ (r : ℕ). drop r c.loop-i.answers ≡ drop r c.args.answers.now) end c.loop-i.invariant.4;
       stands = c.loop-i.invariant.2 ∙ ap (λ (r : ℕ). run m s (take r es)) end ∙ ap (run m s) all;

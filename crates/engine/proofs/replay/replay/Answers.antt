@@ -46,7 +46,7 @@ returns g c =
     record {
       accounts = e.accounts;
       replays = record {
-        played = e.count ∙ sym (cond-true (tables_keep n rs ts) (min (length c.args.events.now) (length c.args.answers.now)) 0 h);
+        played = e.value ∙ sym (cond-true (tables_keep n rs ts) (min (length c.args.events.now) (length c.args.answers.now)) 0 h);
         replied = e.answers;
         rest = e.rest;
         stands = e.stands;

@@ -1,6 +1,5 @@
 use Rattle.std.proofs.Common.{◌≡◌, ℕ, suc, ◌+◌, ◌-◌, ◌<◌, ◌≤◌, ◌∷◌, ◌++◌, map, length, get_or, take, drop, set, sym, ap, ap₂, ◌∙◌, append-nil, arith, length-drop, take_all}
 use Rattle.std.proofs.lemmas.List.{drop_all}
-use Rattle.tables.specs.declared.row.AccountRow.{AccountRow}
 use Rattle.tables.specs.Books.{Book, books_of, no_row, no_book, places_at}
 use Rattle.tables.proofs.Books.{kept, length_books, length_places_at, books_whole, put_same}
 use Rattle.rules.specs.Settling.{settled_row, settled}
@@ -33,16 +32,15 @@ loop-i-preserved g c =
     let r = get_or rs i no_row in
     let ps = places_at ts i in
     let f : Book → Book = settled m k 0 in
-    let h' = c.settled.result in
-    let q = c.row.result in
-    let er₀ : q ≡ h'.row = c.row.ensures.value in
-    let w = c.settled.ensures.bound in
+    let own = c.settled_row in
+    let q = own.result in
+    let w = own.ensures.bound in
     let value : q ≡ settled_row m k 0 r (take r.trades ps) =
-    er₀ ∙ ap (λ (b : Book). b.row) c.settled.ensures.value ∙ ap₂ (λ (x : ℕ) (b : Book). (settled m k x b).row) c.none.ensures c.read_book-held.ensures in
+    own.ensures.value ∙ ap₂ (λ (x : ℕ) (b : Book). (settled m k x b).row) c.none.ensures c.read_book-held.ensures in
     let er = ap (set rs i) value in
     let et = sym (put_same ts i) in
     let long = length_places_at ts i (omega (arith, s.places, lt)) in
-    let fits = settled_fits m k i r ps q (omega (arith, c.loop-i.invariant.1)) (s.each i lt) value c.row.ensures.keeps (omega (arith, ap (λ (x : AccountRow). x.obligation) er₀, w.obligation, c.none.ensures)) (omega (arith, ap (λ (x : AccountRow). x.available) er₀, w.available)) (omega (arith, ap (λ (x : AccountRow). x.shortfall) er₀, w.shortfall, c.none.ensures)) in
+    let fits = settled_fits m k i r ps q (omega (arith, c.loop-i.invariant.1)) (s.each i lt) value own.ensures.keeps (omega (arith, w.obligation, c.none.ensures)) w.available (omega (arith, w.shortfall, c.none.ensures)) in
     let past : length (drop 1 bs) ≡ n - 1 = omega (arith, length-drop 1 bs, length_books c.args.records.now ts, first.rows) in (
       keeps_more n f rs (set rs i q) ts ts i h lt long er et fits,
       omega arith,

@@ -10,9 +10,9 @@ pub change_of-requires : goal.change_of-requires
 change_of-requires c =
     let xs = c.args.shocks.now in
     let is = moved_is xs c.args.row c.args.runs (length c.args.room.now) c.loop-scenario.scenario c.args.residual c.neighbours-p.result.0 c.neighbours-p.result.1 c.value-moved.result c.requires.sizes (omega arith) c.neighbours-p.ensures.low c.neighbours-p.ensures.high c.value-moved.ensures in
-    let size : nat_abs c.value-moved.result ≤ 20000 = rw is (shock_most xs c.args.row c.args.runs c.loop-scenario.scenario c.args.residual c.requires.sizes c.requires.least.1) in
+    let size : nat_abs c.value-moved.result ≤ 20000 = rw is (shock_most xs c.args.row c.args.runs c.loop-scenario.scenario c.args.residual c.requires.sizes c.requires.scenario.1) in
     let back = same c.value-moved.result (omega arith) in
-    (c.requires.few, simp back size)
+    (c.requires.tick, simp back size)
 
 pub loop-scenario-preserved : goal.loop-scenario-preserved
 loop-scenario-preserved c =
@@ -20,7 +20,7 @@ loop-scenario-preserved c =
     let i = c.loop-scenario.scenario in
     let f = λ (k : ℕ). floor (pos c.args.tick *ℤ shock_at xs c.args.row c.args.runs k c.args.residual) 1000 in
     let is = moved_is xs c.args.row c.args.runs (length c.args.room.now) i c.args.residual c.neighbours-p.result.0 c.neighbours-p.result.1 c.value-moved.result c.requires.sizes (omega arith) c.neighbours-p.ensures.low c.neighbours-p.ensures.high c.value-moved.ensures in
-    let size : nat_abs c.value-moved.result ≤ 20000 = rw is (shock_most xs c.args.row c.args.runs i c.args.residual c.requires.sizes c.requires.least.1) in
+    let size : nat_abs c.value-moved.result ≤ 20000 = rw is (shock_most xs c.args.row c.args.runs i c.args.residual c.requires.sizes c.requires.scenario.1) in
     writes_more f c.loop-scenario.room i _ (omega arith)
     (change_is c.args.tick c.change_of.result c.value-moved.result (shock_at xs c.args.row c.args.runs i c.args.residual) (record { sfits = c.change_of.type_inv }) c.change_of.ensures is size)
     c.loop-scenario.invariant

@@ -10,4 +10,4 @@ returns c =
     let xs = c.from_fn-ratios.result in
     let each = five (Is ts rs) xs (λ z. search rules) (λ z. search rules) (λ z. search rules) (λ z. search rules) (λ z. search rules) in
     let count : c.count_exceeding.result ≡ exceeding ts rs = c.count_exceeding.ensures ∙ counts ts rs (search rules) (search rules) in
-    found ts rs xs each c.kth_highest.result c.from_fn-ratios.ensures.items.long (omega (arith, count)) c.kth_highest.ensures.kth
+    found ts rs xs each c.kth_highest.result c.from_fn-ratios.ensures.items.long (omega (arith, count)) c.kth_highest.ensures.words

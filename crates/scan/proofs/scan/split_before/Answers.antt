@@ -10,4 +10,4 @@ returns g c =
     (IsFirst-from_position {v = λ x. x.now} c.position.new.self c.args.stops c.position.result (λ b. FnReturnsAt g.F.Fn c.args.stops b true) (λ b. FnReturnsAt g.F.Fn c.args.stops b false) c.position.ensures.ran (YieldsList-from_slice c.args.text.now (search rules)) (λ x q e. record { shown = x; shows = refl; says = record { met = search rules } }) (λ x q e. search rules))
     (c.split_at.ensures.front ∙ ap (λ n. take n c.args.text.now) c.unwrap_or.ensures)
     (c.split_at.ensures.back ∙ ap (λ n. drop n c.args.text.now) c.unwrap_or.ensures) in
-    record { whole = p.0; before = p.1; stop = p.2 }
+    record { same = p.0; before = p.1; stop = p.2 }

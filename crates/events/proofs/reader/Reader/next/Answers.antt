@@ -11,18 +11,18 @@ returns-in_err-kind c =
     let h = step_headed r.bytes.now r.place r.count c.is_empty.result c.head.result (omega arith) (omega arith) c.if-is_empty.false c.is_empty.ensures c.head.ensures in
     let s : Err f ≡ step_at r.bytes.now r.place r.count = search rules in
     let l = left_fault r.bytes.now r.place r.count f (omega arith) s in
-    record { step = search rules; bytes = search rules; place = search rules; count = search rules; left = search rules }
+    record { value = search rules; bytes = search rules; place = search rules; count = search rules; left = search rules }
 
 pub returns : goal.returns
 returns c =
     let r = c.args.self.now in
     let e = c.decode-event.result in
-    let read = decoded r.bytes.now r.place c.in_ok-kind.kind e c.decode-event.ensures.event in
+    let read = decoded r.bytes.now r.place c.in_ok-kind.kind e c.decode-event.ensures.value in
     let h = step_headed r.bytes.now r.place r.count c.is_empty.result c.head.result (omega arith) (omega arith) c.if-is_empty.false c.is_empty.ensures c.head.ensures in
     let s : Ok (Some e) ≡ step_at r.bytes.now r.place r.count = search rules in
     let size : c.length.result ≡ length_of (event_kind e) = c.length.ensures ∙ ap length_of (sym c.decode-event.ensures.kind) in
     record {
-      step = s;
+      value = s;
       bytes = search rules;
       place = search rules;
       count = search rules;

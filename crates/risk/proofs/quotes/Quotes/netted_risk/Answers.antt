@@ -21,7 +21,7 @@ returns g c =
     let fits : SFits w32 x = record { sfits = c.unwrap_or-lowest.type_inv } in
     let front = length-take-le c.scenarios-count.result c.args.changes.now (omega (arith, c.scenarios-count.ensures, few, c.told-changes)) in
     net_var_of m c.args.self.now.day c.args.first.now c.args.group.trades.now c.requires w c.net_of-net.ensures.value
-    _ c.unsigned_abs.result c.signed_changes.new.changes x _ c.gain.result
+    _ c.unsigned_abs.result c.signed_changes-row.result.now x _ c.gain.result
     (to_z-of_z w64 w (fits_money w (omega (arith, c.net_of-net.ensures.bound)))) c.if-net-eq0.false c.unsigned_abs.ensures.value
-    (omega (arith, c.signed_changes.auto.changes, front, c.scenarios-count.ensures)) (λ j h. c.signed_changes.ensures j (omega (arith, front, c.scenarios-count.ensures)))
+    (omega (arith, c.signed_changes-row.ensures.len, front, c.scenarios-count.ensures)) (λ j h. c.signed_changes-row.ensures.value j (omega (arith, front, c.scenarios-count.ensures)))
     (c.unwrap_or-lowest.ensures ∙ c.lowest_of_tail.ensures (pos 0)) (cast_wide x fits) c.gain.ensures

@@ -19,10 +19,10 @@ loop-bar-preserved g c =
     let before = c.loop-bar.invariant in
     let left = c.skip.result.now in
     let here = kept_from ge t xs c.loop-bar.left.now old.filled old.places.now left c.skip.ensures before.2 in (
-      put.name ∙ before.0,
+      put.same ∙ before.0,
       put.len ∙ before.1,
       kept_more ge t xs left c.x-item.result old.filled new.filled old.places.now new.places.now c.in-len1-up.len_at_least c.x-item.is
-          (λ ys h. holds_push ge ys old.places.now new.places.now old.filled new.filled c.x-item.result put.len put.count put.top h) here,
+          (λ ys h. holds_push ge ys old.places.now new.places.now old.filled new.filled c.x-item.result put.len put.filled put.places h) here,
     )
 
 pub returns-clause-holds : goal.returns-clause-holds
