@@ -1,11 +1,14 @@
-//! The same house on all three sides, and calls that are timed on each.
+//! The same house on all four sides, and calls that are timed on each.
 
 use std::time::Duration;
 
 use domirelash::{HouseRow, Lent, Model, Numbers, Record, Trade, PLACES};
 use plain::{AccountCall, Call, MarketCall, Reply};
 
-use crate::{clock, fast};
+use crate::clock;
+use crate::fast::Fast;
+use crate::rules::{self, Method};
+use crate::same::Same;
 
 pub const ACCOUNTS: usize = 32;
 pub const MONTH: u16 = 300;
@@ -56,8 +59,8 @@ impl Table {
         .expect("all in range")
     }
 
-    fn fast(&self) -> fast::Table<'_> {
-        fast::Table {
+    fn rules(&self) -> rules::Table<'_> {
+        rules::Table {
             sets: 1,
             scenarios: self.scenarios,
             rates: &self.rates,
@@ -95,25 +98,32 @@ struct Plain {
     trades: Vec<plain::Trade>,
 }
 
-struct Fast<'a> {
-    table: fast::Table<'a>,
-    house: fast::House,
+/// A side of `rules`, whichever method its calls use.
+#[derive(Clone)]
+struct Rules<'a> {
+    table: rules::Table<'a>,
+    house: rules::House,
     records: Vec<Record>,
     trades: Vec<Trade>,
 }
 
-/// A house of 32 accounts, on three sides.
+/// How many sides there are: the engine, plain, fast and same.
+pub const SIDES: usize = 4;
+
+/// A house of 32 accounts, on four sides.
 pub struct Desk<'a> {
     library: Library<'a>,
     plain: Plain,
-    fast: Fast<'a>,
+    fast: Rules<'a>,
+    same: Rules<'a>,
     turn: u32,
     /// Of reading the clock, taken off each time.
     cost: Duration,
 }
 
 /// The times of a call on each side, of many rounds.
-pub struct Times(pub [Vec<Duration>; 3]);
+#[derive(Default)]
+pub struct Times([Vec<Duration>; SIDES]);
 
 impl Times {
     fn at(&self, side: usize, share: usize) -> f64 {
@@ -159,6 +169,30 @@ fn plain_trade(trade: &Trade) -> plain::Trade {
     }
 }
 
+impl Rules<'_> {
+    fn play<M: Method>(&mut self, call: Timed, quote: [u32; 3]) -> (Told, Duration) {
+        let Rules { table, house, records, trades } = self;
+        let start = clock::now();
+        let answer = match call {
+            Timed::Price => {
+                let it = house.price::<M>(table, records, trades, 3, quote);
+                let time = clock::now() - start;
+                return (
+                    (it.number, it.set.into(), it.month.into(), it.overnight.into(), it.forward.into()),
+                    time,
+                );
+            }
+            Timed::Trade(trade) => house.new_trade::<M>(table, records, trades, 1, trade),
+            Timed::LodgeCash => house.lodge_cash::<M>(table, records, trades, 1, 1),
+        };
+        let time = clock::now() - start;
+        (
+            (answer.number, answer.obligation, answer.available, answer.shortfall, answer.restriction.into()),
+            time,
+        )
+    }
+}
+
 impl<'a> Desk<'a> {
     /// Each constituent has so many trades, half of the most cash, and lots of security 3.
     pub fn new(table: &'a Table, count: usize) -> Self {
@@ -186,17 +220,18 @@ impl<'a> Desk<'a> {
                 places[PLACES * account + at] = trade;
             }
         }
-        let fast = Fast {
-            table: table.fast(),
-            house: fast::House::new(ACCOUNTS, MONTH),
+        let fast = Rules {
+            table: table.rules(),
+            house: rules::House::new(ACCOUNTS, MONTH),
             records: records.clone(),
             trades: places.clone(),
         };
         let plain =
             Plain { model: table.plain(), house: plain_house, records: plain_records, trades: plain_places };
         let library = Library { model: table.library(), house, records, trades: places };
-        let mut desk = Desk { library, plain, fast, turn: 0, cost: clock::cost() };
-        desk.round(Timed::Price, &mut Times([Vec::new(), Vec::new(), Vec::new()]), 0);
+        let same = fast.clone();
+        let mut desk = Desk { library, plain, fast, same, turn: 0, cost: clock::cost() };
+        desk.round(Timed::Price, &mut Times::default(), 0);
         desk
     }
 
@@ -253,51 +288,32 @@ impl<'a> Desk<'a> {
         (told, time)
     }
 
-    fn fast(&mut self, call: Timed) -> (Told, Duration) {
-        let quote = self.quote();
-        let Fast { table, house, records, trades } = &mut self.fast;
-        let start = clock::now();
-        let answer = match call {
-            Timed::Price => {
-                let it = house.price(table, records, trades, 3, quote);
-                let time = clock::now() - start;
-                return (
-                    (it.number, it.set.into(), it.month.into(), it.overnight.into(), it.forward.into()),
-                    time,
-                );
-            }
-            Timed::Trade(trade) => house.new_trade(table, records, trades, 1, trade),
-            Timed::LodgeCash => house.lodge_cash(table, records, trades, 1, 1),
-        };
-        let time = clock::now() - start;
-        (
-            (answer.number, answer.obligation, answer.available, answer.shortfall, answer.restriction.into()),
-            time,
-        )
-    }
-
     /// One round: each side once, in an order that turns. All must answer alike and leave like tables.
     fn round(&mut self, call: Timed, times: &mut Times, order: usize) {
-        let mut told = [(0, 0, 0, 0, 0); 3];
-        for place in 0..3 {
-            let side = (place + order) % 3;
+        let quote = self.quote();
+        let mut told = [(0, 0, 0, 0, 0); SIDES];
+        for place in 0..SIDES {
+            let side = (place + order) % SIDES;
             let (answer, time) = match side {
                 0 => self.library(call),
                 1 => self.plain(call),
-                _ => self.fast(call),
+                2 => self.fast.play::<Fast>(call, quote),
+                _ => self.same.play::<Same>(call, quote),
             };
             told[side] = answer;
             times.0[side].push(time.saturating_sub(self.cost));
         }
         assert_eq!(told[0].0, 0, "the call is refused");
-        assert!(told[0] == told[1] && told[0] == told[2], "the answers differ: {told:?}");
+        assert!(told.iter().all(|answer| *answer == told[0]), "the answers differ: {told:?}");
         self.assert_same();
         self.turn += 1;
     }
 
     fn assert_same(&self) {
-        let (library, plain, fast) = (&self.library, &self.plain, &self.fast);
-        assert!(library.records == fast.records && library.trades == fast.trades, "the tables differ");
+        let (library, plain) = (&self.library, &self.plain);
+        for side in [&self.fast, &self.same] {
+            assert!(library.records == side.records && library.trades == side.trades, "the tables differ");
+        }
         for (row, record) in library.records.iter().zip(&plain.records) {
             let levels = [row.overnight.initial, row.overnight.gross, row.forward.initial, row.forward.gross];
             let of_library = (row.cash, row.obligation, row.available, row.shortfall, row.lots, levels);
@@ -319,19 +335,21 @@ impl<'a> Desk<'a> {
 
     /// So many rounds of a call. A trade is taken back after each.
     pub fn time(&mut self, call: Timed, rounds: usize) -> Times {
-        let mut times = Times([Vec::new(), Vec::new(), Vec::new()]);
+        let mut times = Times::default();
         let (records, trades) = (self.library.records.clone(), self.library.trades.clone());
         let (plain_records, plain_trades) = (self.plain.records.clone(), self.plain.trades.clone());
         // A first round warms up.
-        self.round(call, &mut Times([Vec::new(), Vec::new(), Vec::new()]), 0);
+        self.round(call, &mut Times::default(), 0);
         for round in 0..rounds {
             if let Timed::Trade(_) = call {
                 self.library.records.copy_from_slice(&records);
                 self.library.trades.copy_from_slice(&trades);
                 self.plain.records.copy_from_slice(&plain_records);
                 self.plain.trades.copy_from_slice(&plain_trades);
-                self.fast.records.copy_from_slice(&records);
-                self.fast.trades.copy_from_slice(&trades);
+                for side in [&mut self.fast, &mut self.same] {
+                    side.records.copy_from_slice(&records);
+                    side.trades.copy_from_slice(&trades);
+                }
             }
             self.round(call, &mut times, round);
         }

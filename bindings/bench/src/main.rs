@@ -1,33 +1,43 @@
-//! Times the library against the rules in ordinary Rust, and against the fastest Rust we could write, in one run on the
-//! same inputs. Each round plays the call on all three, in an order that turns, and compares answers and tables.
+//! Times the library against the rules in ordinary Rust, and against the fastest Rust we could write, by any means and by
+//! the means of the engine alone, in one run on the same inputs. Each round plays the call on all four, in an order that
+//! turns, and compares answers and tables.
 
 mod clock;
 mod desk;
 mod fast;
+mod rules;
+mod same;
 
 use std::hint::black_box;
 
-use desk::{Desk, Table, Timed, Times, ACCOUNTS, MONTH};
+use desk::{Desk, Table, Timed, Times, ACCOUNTS, MONTH, SIDES};
 use domirelash::Trade;
 
 fn heading(what: &str) {
     println!();
-    println!(
-        "{what:<44} {:>10} {:>10} {:>10} {:>8} {:>8} {:>8} {:>8}",
-        "engine us", "plain us", "fast us", "e/plain", "e/fast", "e/p 10%", "e/f 10%"
-    );
+    print!("{what:<40}");
+    for side in ["engine us", "plain us", "fast us", "same us"] {
+        print!(" {side:>10}");
+    }
+    for ratio in ["e/plain", "e/fast", "e/same", "e/p 10%", "e/f 10%", "e/s 10%"] {
+        print!(" {ratio:>8}");
+    }
+    println!();
 }
 
 fn line(what: &str, times: &Times) {
-    let [engine, plain, fast] = [0, 1, 2].map(|side| times.median(side));
-    let low = [0, 1, 2].map(|side| times.tenth(side));
-    println!(
-        "{what:<44} {engine:>10.1} {plain:>10.1} {fast:>10.1} {:>8.2} {:>8.2} {:>8.2} {:>8.2}",
-        engine / plain,
-        engine / fast,
-        low[0] / low[1],
-        low[0] / low[2]
-    );
+    let medians: [f64; SIDES] = std::array::from_fn(|side| times.median(side));
+    let tenths: [f64; SIDES] = std::array::from_fn(|side| times.tenth(side));
+    print!("{what:<40}");
+    for time in medians {
+        print!(" {time:>10.1}");
+    }
+    for [engine, others @ ..] in [medians, tenths] {
+        for time in others {
+            print!(" {:>8.2}", engine / time);
+        }
+    }
+    println!();
 }
 
 /// How many multiply-adds of 64-bit sums the machine makes in a microsecond, over so many rows of changes.
@@ -54,7 +64,7 @@ fn multiply_adds(changes: &[i32], scenarios: usize, rows: usize) -> f64 {
 
 fn main() {
     let rounds = std::env::args().nth(1).and_then(|word| word.parse().ok()).unwrap_or(400);
-    println!("Microseconds on the processor: medians of {rounds} rounds; the last two columns compare the times below which");
+    println!("Microseconds on the processor: medians of {rounds} rounds; the last three columns compare the times below which");
     println!("a tenth of the rounds lie. A house of {ACCOUNTS} accounts, a table model of one set.");
 
     let table = Table::new(1000);
@@ -98,14 +108,12 @@ fn main() {
             "a plain loop of multiply-adds of 64-bit sums {what}: {speed:.0} in a microsecond; {least} take {:.0} us,",
             least as f64 / speed
         );
+        let needs = |time: f64| time * speed / least as f64;
+        let [engine, plain, fast, same] = std::array::from_fn(|side| needs(price.median(side)));
+        let tenths: [f64; SIDES] = std::array::from_fn(|side| needs(price.tenth(side)));
         println!(
-            "    and (a) takes {:.2} times that in the engine, {:.2} in plain, {:.2} in fast (tenths: {:.2}, {:.2}, {:.2})",
-            price.median(0) * speed / least as f64,
-            price.median(1) * speed / least as f64,
-            price.median(2) * speed / least as f64,
-            price.tenth(0) * speed / least as f64,
-            price.tenth(1) * speed / least as f64,
-            price.tenth(2) * speed / least as f64,
+            "    and (a) takes {engine:.2} times that in the engine, {plain:.2} in plain, {fast:.2} in fast, {same:.2} in same"
         );
+        println!("    (tenths: {:.2}, {:.2}, {:.2}, {:.2})", tenths[0], tenths[1], tenths[2], tenths[3]);
     }
 }
