@@ -385,6 +385,7 @@ accounts/ask_traded: CALLS 2 11
 accounts/is_restricted: 7 house
 accounts/settle: 8 account
 accounts/HeldBook::settled: 6.11 cover carried, 8 house
+accounts/HeldBook::settled_row: 6.11 cover carried, 8 house
 accounts/preview: CALLS 4 with it
 accounts/close_up: 3 closing up, CALLS 4 end
 accounts/find_trade: CALLS 4 end, CALLS 2 12
@@ -579,10 +580,19 @@ risk/gather: 6.3 groups
 risk/Grouping::groups: 6.3 groups
 risk/Grouping::key: 6.3 bucket
 risk/Quotes::sum_group_risks: 6.3 groups
-risk/Quotes::group_risk: 6.3 groups
+risk/Quotes::residual_risks: 6.3 groups
+risk/Quotes::bucket_risk: 6.3 groups
+risk/Quotes::summed_bucket: 6.3 groups
+risk/Quotes::buckets: 6.3 groups
 risk/Quotes::work_out: 6.5 base
 risk/Quotes::add_legs: 6.1 loss
-risk/Quotes::summed_risk: 6.1 loss
+risk/add_row: 6.1 loss
+risk/add_each: 6.1 loss
+risk/plus_products: 6.1 loss
+risk/Quotes::add_group: 6.1 loss
+risk/Quotes::write_losses: 6.1 loss
+risk/add_losses: 6.1 loss
+risk/risk_of_losses: 6.2 VaR
 risk/Quotes::value_at_risk: 6.2 k
 risk/lowest_of_tail: 6.2 VaR
 risk/Quotes::*: 5.1 asked
