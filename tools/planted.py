@@ -421,6 +421,7 @@ domirelash/*: C_LIBRARY calls
 engine/*: CALLS 1 calls
 eventrun/write_*: EVENT_FILE 3 lines
 eventrun/transcript: EVENT_FILE 3 run, EVENT_FILE 5 model
+eventrun/read_input: EVENT_FILE 1 size
 eventrun/*: EVENT_FILE 3 run
 events/Reader::count: EVENT_FILE 3 run
 events/Event::kind: EVENT_FILE 2 records
@@ -577,6 +578,7 @@ risk/Quotes::signed_changes: 6.1 loss
 risk/gain: 6.2 VaR, 6.7 credit
 risk/lost: 6.7 loss
 risk/gather: 6.3 groups
+risk/gather_standing: 6.3 groups
 risk/Grouping::groups: 6.3 groups
 risk/Grouping::key: 6.3 bucket
 risk/Quotes::sum_group_risks: 6.3 groups
@@ -663,7 +665,7 @@ margins/available_credit: 6.11 available
 margins/concentration_lower: 6.9 higher
 margins/level_upper: 6.9 15
 margins/mark_fixed: 6.6 mark
-margins/own_clears_at_90: 7 own clear, 7 second clear
+margins/own_clears_at_90: 7 own clear
 margins/own_flag_of_second: 7 own set, 7 own clear
 margins/second_today_only: 7 second stays
 margins/volatility_family: 6.8 margin

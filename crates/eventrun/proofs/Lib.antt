@@ -1,3 +1,5 @@
 pub mod Answered
+pub mod Endings
+pub mod Known
 pub mod Opened
 pub mod Skips

@@ -1,3 +1,4 @@
 pub mod Calls
+pub mod Endings
 pub mod Files
 pub mod Lines

@@ -2,5 +2,6 @@
 #![tactic(auto)]
 
 pub mod calls;
+pub mod input;
 pub mod lines;
 pub mod play;

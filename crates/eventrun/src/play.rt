@@ -5,13 +5,14 @@ ghost use Rattle.events.specs.Files.{events_of, fault_of};
 ghost use Rattle.refusals.specs.Refusals.{first_no, decided, result_number};
 ghost use Rattle.rules.specs.Opening.{opening_questions, opened_market, opened_rows, opened_trades};
 ghost use Rattle.rules.specs.Runs.{answers_run};
+ghost use Rattle.eventrun.specs.Endings.{fault_in};
 ghost use Rattle.eventrun.specs.Files.{answer_in, tables_after, Plays, IsFileRun};
 
 use super::calls::{calls_in, events_in};
 use engine::play::play as play_day;
 use events::event::Event;
 use events::fault::Fault;
-use events::reader::Reader;
+use events::reading::{Ending, MOST_EVENTS, read_all};
 use house::listing::answer_all;
 use models::model::MarginModel;
 use opening::opening::{empty_row, open, unopened};
@@ -88,20 +89,31 @@ fn answers_of(heap: Global, replies: &[Reply]) -> Result<Vec<Answer>, AllocError
     replies.iter().map(|reply| answer_in(*reply)).collect(heap)
 }
 
-// Reads an event file.
+// The fault that a reading ended at, if it did.
+fn fault_in(ending: Ending) -> Option<Fault>
+    ensures { result ≡ fault_in ending }
+{
+    match ending {
+        Ending::Fault(fault) => Some(fault),
+        Ending::End | Ending::NoRoom => None,
+    }
+}
+
+// Reads an event file, by the reader of whole files: no file has more events than the room.
 pub fn read_file(heap: Global, bytes: &[u8]) -> Result<Found, AllocError>
     ensures { IfOk result (λ f. (f.events.items ≡ events_of bytes.now) × (f.fault ≡ fault_of bytes.now)) }
 {
-    let mut reader = Reader::new(bytes);
-    let mut events = Vec::new(heap);
-    let fault = loop {
-        match reader.next() {
-            Ok(Some(event)) => events.push(event)?,
-            Ok(None) => break None,
-            Err(fault) => break Some(fault),
-        }
+    let blank = Event::Open {
+        accounts: 0,
+        month: 0,
     };
-    Ok(Found { events, fault })
+    let mut events = vec![in heap; blank; MOST_EVENTS]?;
+    let reading = read_all(bytes, &mut events);
+    events.truncate(reading.count);
+    Ok(Found {
+        events,
+        fault: fault_in(reading.ending),
+    })
 }
 
 // An opening on new tables, and the calls of the records after it.

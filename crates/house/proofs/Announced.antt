@@ -1,10 +1,10 @@
 -- A market call on the tables, and by the rules.
-use Rattle.std.proofs.Common.{◌≡◌, ℕ, ◌≤◌, true, List, [], ◌∷◌, map, length, get_or, drop, None, Ok, Err, Option, Result, sym, ap, ◌∙◌, arith}
+use Rattle.std.proofs.Common.{◌≡◌, ℕ, ◌≤◌, true, List, [], ◌∷◌, map, length, get_or, drop, None, Ok, Err, Option, Result, sym, ap, ap₂, ◌∙◌, arith}
 use mathlib.Core.List.{map-map}
 use Rattle.std.proofs.lemmas.List.{map-id}
 use Rattle.models.specs.Meaning.{Meaning}
 use Rattle.refusals.specs.declared.refusal.Refusal.{Refusal}
-use Rattle.refusals.specs.Refusals.{first_no, decided, result_number}
+use Rattle.refusals.specs.Refusals.{first_no, decided, number_of, result_number}
 use Rattle.tables.specs.declared.row.AccountRow.{AccountRow}
 use Rattle.tables.specs.declared.row.TradeRow.{TradeRow}
 use Rattle.tables.specs.Books.{Book, books_of, no_book}
@@ -37,10 +37,16 @@ module _ (m : Meaning) (k : MarketState) (n : ℕ) (rs : List AccountRow) (ts : 
   abbrev asked : Result (Unit {0}) Refusal
   asked = first_no (market_questions m.sets k c)
 
-  pub market_refused : (e : Refusal) → asked ≡ Err e → (rs ≡ rows_of (after_market m s c)) × (ts ≡ trades_of (after_market m s c))
+  pub market_refused : (e : Refusal) → asked ≡ Err e
+      → (market_answer (number_of e) k ≡ market_reply m s c) × (k ≡ (after_market m s c).market) × (rs ≡ rows_of (after_market m s c)) × (ts ≡ trades_of (after_market m s c)) × (s ≡ after_market m s c)
   market_refused e is =
-      let stays : after_market m s c ≡ s = ap (λ (r : Result (Unit {0}) Refusal). decided r (all_settled m (market_changed c k) c s) (λ e. s)) is in
-      (sym (ap rows_of stays ∙ rows_stand k n rs ts some h), sym (ap trades_of stays ∙ trades_stand k n rs ts some h))
+      let stays : after_market m s c ≡ s = ap (λ (r : Result (Unit {0}) Refusal). decided r (all_settled m (market_changed c k) c s) (λ e. s)) is in (
+        sym (ap₂ (λ (r : Result (Unit {0}) Refusal) (t : Stand). market_answer (result_number r) t.market) is stays),
+        sym (ap (λ (t : Stand). t.market) stays),
+        sym (ap rows_of stays ∙ rows_stand k n rs ts some h),
+        sym (ap trades_of stays ∙ trades_stand k n rs ts some h),
+        sym stays,
+      )
 
   pub market_granted : (k' : MarketState) (rs₁ rs₂ us : List AccountRow) (ts₁ : List TradeRow) → asked ≡ Ok tt → k' ≡ market_changed c k
       → books_of rs₁ ts₁ ≡ map (aged c) (books_of rs ts)

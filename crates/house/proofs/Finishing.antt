@@ -2,7 +2,7 @@
 use Rattle.std.proofs.Common.{◌≡◌, ℕ, suc, ◌+◌, ◌-◌, ◌*◌, ◌≤◌, Bool, true, false, List, [], ◌∷◌, ◌++◌, map, length, get_or, take, drop, set, sum_by, sym, refl, ap, ◌∙◌, subst, ap₂, append-nil, arith, take_all}
 use lib.ListN.{length-map}
 use borrow.Rule.Slice.PartMut.{put_mid}
-use Rattle.std.specs.List.{All, list_all}
+use Rattle.std.specs.List.{All, fold, list_all}
 use Rattle.std.proofs.lemmas.List.Elements.{All-nil, All-map}
 use mathlib.Core.List.{map-map}
 use Rattle.std.proofs.lemmas.List.{drop_all}
@@ -22,9 +22,9 @@ use Rattle.rules.specs.Stands.{standing, finish, rows_of, trades_of, shortfalls}
 use Rattle.accounts.proofs.Steps.{settled_count}
 
 -- the cover, out of the records
-sum_books : (cs : List AccountRow) (us : List TradeRow) → sum_by (λ (r : AccountRow). r.shortfall) cs ≡ shortfalls (books_of cs us)
-sum_books cs us =
-    ap (sum_by (λ (r : AccountRow). r.shortfall)) (sym (rows_back cs us)) ∙ fold-map (λ (x : ℕ) (r : AccountRow). x + r.shortfall) (λ (b : Book). b.row) 0 (books_of cs us)
+sum_books : (cs : List AccountRow) (us : List TradeRow) (n : ℕ) → fold (λ (x : ℕ) (r : AccountRow). x + r.shortfall) n cs ≡ fold (λ (x : ℕ) (b : Book). x + b.row.shortfall) n (books_of cs us)
+sum_books cs us n =
+    ap (fold (λ (x : ℕ) (r : AccountRow). x + r.shortfall) n) (sym (rows_back cs us)) ∙ fold-map (λ (x : ℕ) (r : AccountRow). x + r.shortfall) (λ (b : Book). b.row) n (books_of cs us)
 
 pub rows_reflagged : (r : Bool) (cs : List AccountRow) (us : List TradeRow) → rows_in (map (reflagged r) (books_of cs us)) ≡ map (row_reflagged r) cs
 rows_reflagged r cs us =
@@ -72,7 +72,7 @@ finished m k n cover (r ∷ cs) ys ts own some h ec eo held fits ey =
     let s = kept n (r ∷ cs) ts h in
     let e : put_mid 1 (length (own ∷ cs) - 1) (own ∷ cs) ys ≡ own ∷ map (row_reflagged own.own) cs =
     put_rest own cs ys ∙ ap (λ (l : List AccountRow). own ∷ l) (ey ∙ ap (map (row_reflagged own.own)) (take_all (length (own ∷ cs) - 1) cs (omega arith))) in
-    let c : cover ≡ shortfalls (books_of cs (drop 64 ts)) = ec ∙ sum_books cs (drop 64 ts) in
+    let c : cover ≡ shortfalls (books_of cs (drop 64 ts)) = ec ∙ sum_books cs (drop 64 ts) 0 in
     let settled : own ≡ (house_settled m k (shortfalls (books_of cs (drop 64 ts))) (book r (take 64 ts))).row =
     eo ∙ ap (λ (x : ℕ). (house_settled m k x (book r (take 64 ts))).row) c in
     let count : own.trades ≡ r.trades = ap (λ (q : AccountRow). q.trades) eo ∙ settled_count m k cover r (take r.trades (take 64 ts)) _ refl in (
@@ -94,4 +94,4 @@ finished m k n cover (r ∷ cs) ys ts own some h ec eo held fits ey =
 -- the cover, out of the records
 pub cover_books : (rs : List AccountRow) (ts : List TradeRow) → sum_by (λ (r : AccountRow). r.shortfall) (drop 1 rs) ≡ shortfalls (drop 1 (books_of rs ts))
 cover_books [] ts = refl
-cover_books (r ∷ rs) ts = sum_books rs (drop 64 ts)
+cover_books (r ∷ rs) ts = sum_books rs (drop 64 ts) 0

@@ -63,9 +63,14 @@ opened_book : (month n i : ℕ) → i < n → book_of (opened month n) i ≡ emp
 opened_book month zero i l = absurd (omega arith)
 opened_book month (suc n) i l = ap (λ (s : Stand). book_of s i) (opened_is month (suc n)) ∙ get_or-replicate (suc n) i empty_book no_book l
 
-empty_lots : (which : ℕ) → which < 32 → slice_index_or empty_book.row.lots which 0 ≡ 0
+empty_lots : (which : ℕ) → slice_index_or empty_book.row.lots which 0 ≡ 0
 unfolding empty_row
-empty_lots which low = get_or-replicate 32 which 0 0 low
+empty_lots which = go 32 which
+  where
+    go : (n w : ℕ) → ◌≡◌ {A = ℕ} (slice_index_or (replicate n 0) w 0) 0
+    go zero w = refl
+    go (suc n) zero = refl
+    go (suc n) (suc w) = go n w
 
 empty_cash : empty_book.row.cash ≡ 0
 unfolding empty_row
@@ -111,7 +116,7 @@ module _ (m : Meaning) (month n : ℕ) where
         let g : (book_of (run m first es) i).row.cash + accepted drawn_cash i es (replies m first es) ≡ (book_of first i).row.cash + accepted lodged_cash i es (replies m first es) = ledger_run cash_ledger m i first es (many some i l) tt in
         g ∙ ap (λ (x : ℕ). x + accepted lodged_cash i es (replies m first es)) none ∙ zero-add (accepted lodged_cash i es (replies m first es));
     lots = λ i l which low.
-        let none : slice_index_or (book_of first i).row.lots which 0 ≡ 0 = ap (λ (b : Book). slice_index_or b.row.lots which 0) (opened_book month n i l) ∙ empty_lots which low in
+        let none : slice_index_or (book_of first i).row.lots which 0 ≡ 0 = ap (λ (b : Book). slice_index_or b.row.lots which 0) (opened_book month n i l) ∙ empty_lots which in
         let long : length (book_of first i).row.lots ≡ 32 = ap (λ (b : Book). length b.row.lots) (opened_book month n i l) ∙ empty_long in
         let g : slice_index_or (book_of (run m first es) i).row.lots which 0 + accepted (drawn_lots which) i es (replies m first es) ≡ slice_index_or (book_of first i).row.lots which 0 + accepted (lodged_lots which) i es (replies m first es) = ledger_run (lots_ledger which low) m i first es (many some i l) long in
         g ∙ ap (λ (x : ℕ). x + accepted (lodged_lots which) i es (replies m first es)) none ∙ zero-add (accepted (lodged_lots which) i es (replies m first es));

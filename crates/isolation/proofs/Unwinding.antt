@@ -1,5 +1,5 @@
 -- Unwinding: where a holder's view goes by what the holder is told, holders that see and are told the same observe the same.
-use Rattle.std.proofs.Common.{◌≡◌, ℕ, zero, suc, Bool, true, false, if◌then◌else◌, List, [], ◌∷◌, ◌++◌, map, take, sym, refl, ap, ◌∙◌, ap₂}
+use Rattle.std.proofs.Common.{◌≡◌, ℕ, zero, suc, Bool, true, false, if◌then◌else◌, List, [], ◌∷◌, ◌++◌, map, length, take, sym, refl, ap, ◌∙◌, ap₂, append_assoc}
 use Rattle.models.specs.Meaning.{Meaning}
 use Rattle.tables.specs.Books.{Book}
 use Rattle.rules.specs.declared.call.Event.{Event}
@@ -96,6 +96,18 @@ module _ (m : Meaning) where
   pub replies_append : (s : Stand) (es fs : List Event) → replies m s (es ++ fs) ≡ replies m s es ++ replies m (run m s es) fs
   replies_append s [] fs = refl
   replies_append s (e ∷ es) fs = ap (λ (l : List Reply). reply m s e ∷ l) (replies_append (after m s e) es fs)
+
+  -- an account's answers to one list and then another
+  pub own_append : (i : ℕ) (s : Stand) (es fs : List Event)
+      → own_replies i (es ++ fs) (replies m s (es ++ fs)) ≡ own_replies i es (replies m s es) ++ own_replies i fs (replies m (run m s es) fs)
+  own_append i s [] fs = refl
+  own_append i s (e ∷ es) fs =
+      ap (λ (l : List Reply). (if concerns i e then reply m s e ∷ [] else []) ++ l) (own_append i (after m s e) es fs)
+      ∙ sym (append_assoc (if concerns i e then reply m s e ∷ [] else []) _ _)
+
+  pub length_replies : (s : Stand) (es : List Event) → length (replies m s es) ≡ length es
+  length_replies s [] = refl
+  length_replies s (e ∷ es) = ap suc (length_replies (after m s e) es)
 
   pub take_replies : (s : Stand) (i : ℕ) (es : List Event) → take i (replies m s es) ≡ replies m s (take i es)
   take_replies s zero es = refl

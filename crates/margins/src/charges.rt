@@ -51,18 +51,17 @@ fn percent_of_level(level: u8) -> u64
     }
 }
 
-// What the higher of two levels charges. This share, the one of `volatility_margin` and the one of the step-up are each one
-// `div_ceil`: a function of amount, part and whole for them would be longer than what it stands for.
-pub(crate) fn concentration_charge(initial: u64, levels: Levels) -> u64
-    requires { initial ≤ 1000000000000000 }
+// What the higher of two levels charges, of any initial margin: of its whole hundreds first, so that 64 bits hold every product.
+pub fn concentration_charge(initial: u64, levels: Levels) -> u64
     ensures value { result ≡ concentration_of initial levels }
     ensures bound { result ≤ initial }
 {
     let percent = percent_of_level(levels.initial.max(levels.gross));
-    (initial * percent).div_ceil(100)
+    initial / 100 * percent + (initial % 100 * percent).div_ceil(100)
 }
 
-// The volatility margin, at a per cent in tenths.
+// The volatility margin, at a per cent in tenths. This share and the one of the step-up are each one `div_ceil`: a function of amount,
+// part and whole for them would be longer than what it stands for.
 pub(crate) fn volatility_margin(initial: u64, tenths: u32) -> u64
     requires initial { initial ≤ 1000000000000000 }
     requires tenths { tenths ≤ 1000 }

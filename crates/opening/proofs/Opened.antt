@@ -1,5 +1,5 @@
 -- The tables that an opening leaves keep their limits, and so does its market.
-use Rattle.std.proofs.Common.{◌≡◌, ℕ, zero, suc, ◌*◌, ◌≤◌, true, nat_eq, nat_le, List, length, slice_index_or, drop, Ok, refl, ap, ◌∙◌, arith}
+use Rattle.std.proofs.Common.{◌≡◌, ℕ, zero, suc, ◌*◌, ◌≤◌, min, Bool, true, false, ◌&&◌, nat_eq, nat_le, List, [], ◌∷◌, length, slice_index_or, drop, Ok, refl, sym, ap, ap₂, ◌∙◌, arith}
 use lib.ListN.{length-replicate}
 use Rattle.std.proofs.lemmas.Bool.{and_from, and_parts, le-leb, leb-true, eqb-true}
 use Rattle.tables.specs.declared.row.AccountRow.{AccountRow}
@@ -10,8 +10,9 @@ use Rattle.std.specs.List.{list_all}
 use Rattle.tables.proofs.Alls.{list_all_replicate}
 use Rattle.tables.proofs.Books.{keeps_from}
 use Rattle.market.specs.States.{market_keeps}
-use Rattle.refusals.specs.Refusals.{first_no}
-use Rattle.rules.specs.Opening.{empty_row, opened_market, opened_rows, opened_trades, opening_questions}
+use Rattle.refusals.specs.Refusals.{Question, first_no}
+use Rattle.refusals.specs.declared.refusal.Refusal.TheVariants.{Tables, WrongAccounts, WrongOpeningMonth}
+use Rattle.rules.specs.Opening.{empty_row, opened_market, opened_rows, opened_trades, opening_questions, opening_result}
 use Rattle.rules.proofs.Empty.{empty_book, books_empty}
 use Rattle.refusals.proofs.Facts.{all_yes}
 
@@ -47,3 +48,22 @@ allowed n month rs ts e =
     let a = and_parts (nat_le 1 n) (nat_le n 32) q.0 in
     let b = and_parts (nat_eq (length rs) n) (nat_eq (length ts) (64 * n)) q.1.1.0 in
     record { some = leb-true _ _ a.0; few = leb-true _ _ a.1; rows = eqb-true _ _ b.0; places = eqb-true _ _ b.1 }
+
+-- an opening asks nothing of the tables but their lengths: tables of at most 32 accounts answer as those that it leaves
+abbrev later : ℕ → ℕ → ℕ → ℕ → List Question
+later n month a b = (nat_le month 1199, WrongOpeningMonth) ∷ (nat_eq a n && nat_eq b (64 * n), Tables) ∷ []
+
+by_lengths : (n month a b d e : ℕ) → ((nat_le 1 n && nat_le n 32) ≡ true → (a ≡ d) × (b ≡ e))
+    → (t : Bool) → (nat_le 1 n && nat_le n 32) ≡ t → first_no ((t, WrongAccounts) ∷ later n month a b) ≡ first_no ((t, WrongAccounts) ∷ later n month d e)
+by_lengths n month a b d e h false q = refl
+by_lengths n month a b d e h true q = ap₂ (λ (x y : ℕ). first_no (later n month x y)) (h q).0 (h q).1
+
+min_few : (n : ℕ) → (nat_le 1 n && nat_le n 32) ≡ true → min n 32 ≡ n
+min_few n e = let le : n ≤ 32 = leb-true n 32 (and_parts (nat_le 1 n) (nat_le n 32) e).1 in omega arith
+
+pub asked_same : (n month : ℕ) (rs : List AccountRow) (ts : List TradeRow) → length rs ≡ min n 32 → length ts ≡ 64 * min n 32
+    → first_no (opening_questions n month rs ts) ≡ opening_result n month
+asked_same n month rs ts er et =
+    by_lengths n month (length rs) (length ts) (length (opened_rows n)) (length (opened_trades n))
+    (λ e. (er ∙ (min_few n e ∙ sym (length-replicate n empty_row)), et ∙ (ap (λ (y : ℕ). 64 * y) (min_few n e) ∙ sym (length-replicate (64 * n) no_trade))))
+    (nat_le 1 n && nat_le n 32) refl

@@ -16,7 +16,7 @@ use Rattle.risk.specs.declared.grouping.Grouping.{Grouping}
 use Rattle.risk.specs.declared.grouping.Grouping.TheVariants.{ByResidual, ByHalfYear, ByBenchmark}
 use Rattle.risk.specs.Groups.{TradeFits, Standing, key_of, groups_of, in_group, group_trades}
 use Rattle.tables.specs.Numbers.{sum_below, rounded_up}
-use Rattle.tables.proofs.Numbers.{sum_le, sum_nil}
+use Rattle.tables.proofs.Numbers.{sum_le, sum_more, sum_nil}
 use Rattle.risk.specs.declared.figures.RiskFigures.{RiskFigures}
 use Rattle.risk.specs.Losses.{var_of, AtRisk}
 use Rattle.risk.specs.Initial.{grouped_risk, stepped_up, minimum_of, risk_from, risk_of}
@@ -62,6 +62,11 @@ groups_most m d l ts n law h =
       groups_few l d ts n,
       sum_le (λ k. var_of m d (group_trades l d k ts)) (λ k. length (group_trades l d k ts)) n (λ k. var_most m d (group_trades l d k ts) law (group_standing l d k ts h).each),
     )
+
+-- two groups, one after the other
+pub pair_few : (l : Grouping) (d : Day) (ts : List TradeRow) (k : ℕ) → length (group_trades l d k ts) + length (group_trades l d (k + 1) ts) ≤ length ts
+pair_few l d ts k =
+    omega (arith, groups_few l d ts (k + 1 + 1), sum_more (λ i. length (group_trades l d i ts)) (k + 1), sum_more (λ i. length (group_trades l d i ts)) k)
 
 pub benchmarks_few : (d : Day) (ts : List TradeRow) → length (group_trades ByBenchmark d 0 ts) + length (group_trades ByBenchmark d 1 ts) + length (group_trades ByBenchmark d 2 ts) + length (group_trades ByBenchmark d 3 ts) ≤ length ts
 unfolding sum_below

@@ -2,13 +2,13 @@
 #![tactic(auto)]
 
 ghost use Rattle.std.specs.Prelude.{◌≡◌, ◌≢◌, map, string_bytes, IfOk};
-ghost use Rattle.scan.specs.Texts.{Gains};
 ghost use Rattle.samples.specs.Lines.{verdict_text, sample_line, ListsSamples};
 ghost use Rattle.samples.specs.declared.said.Verdict.TheVariants.{AsExpected, Differs};
 
 pub mod said;
 
 use said::Verdict;
+use std::alloc::Global;
 use std::fmt::Write;
 use std::io::Write as WriteBytes;
 use std::{env, fs};
@@ -42,14 +42,36 @@ fn verdict_of<F: Fn(&HostRuntime, &[u8]) -> anyhow::Result<String>>(
     Ok(verdict(printed.as_str(), expected.as_str()))
 }
 
-fn write_sample(text: &mut String, name: &str, verdict: Verdict) -> anyhow::Result<()>
-    ensures { Gains result text.old text.new (sample_line name.now (verdict_text verdict)) }
+// The line of a sample.
+fn line_of(heap: Global, name: &str, verdict: Verdict) -> anyhow::Result<String>
+    ensures { IfOk result (λ text. string_bytes text ≡ sample_line name.now (verdict_text verdict)) }
 {
-    writeln!(text, "{name} {verdict}")?;
-    Ok(())
+    let mut line = String::new(heap);
+    writeln!(&mut line, "{name} {verdict}")?;
+    Ok(line)
 }
 
-// Plays each sample, and makes a line for it. Of a NAME the files NAME.ENDING and NAME.expected are read.
+// Plays each sample, and makes a line for it, which `say` is given as soon as it is made. Of a NAME the files NAME.ENDING and
+// NAME.expected are read.
+fn run_saying<
+    F: Fn(&HostRuntime, &[u8]) -> anyhow::Result<String>,
+    S: Fn(&str) -> anyhow::Result<()>,
+>(rt: &HostRuntime, names: &[String], ending: &str, play: F, say: S) -> anyhow::Result<String>
+    requires play { F.IsAlwaysCallable play }
+    requires say { S.IsAlwaysCallable say }
+    ensures { IfOk result (λ text. ListsSamples (map string_bytes names.now) (string_bytes text)) }
+{
+    let mut text = String::new(rt.alloc());
+    for name in names {
+        let verdict = verdict_of(rt, name.as_str(), ending, &play)?;
+        let line = line_of(rt.alloc(), name.as_str(), verdict)?;
+        text.push_str(line.as_str())?;
+        say(line.as_str())?;
+    }
+    Ok(text)
+}
+
+// Plays each sample, and makes the text of their lines.
 pub fn run<F: Fn(&HostRuntime, &[u8]) -> anyhow::Result<String>>(
     rt: &HostRuntime,
     names: &[String],
@@ -59,16 +81,18 @@ pub fn run<F: Fn(&HostRuntime, &[u8]) -> anyhow::Result<String>>(
     requires { F.IsAlwaysCallable play }
     ensures { IfOk result (λ text. ListsSamples (map string_bytes names.now) (string_bytes text)) }
 {
-    let mut text = String::new(rt.alloc());
-    for name in names {
-        let verdict = verdict_of(rt, name.as_str(), ending, &play)?;
-        write_sample(&mut text, name.as_str(), verdict)?;
-    }
-    Ok(text)
+    run_saying(rt, names, ending, play, |_| Ok(()))
 }
 
-// The whole of a program that plays samples: those that its arguments name. The text is `run`'s; of what reaches standard
-// output no clause of the library speaks.
+// Writes a line at once.
+fn print_line(rt: &HostRuntime, line: &str) -> anyhow::Result<()> {
+    rt.stdout().write_all(line.as_bytes())?;
+    Ok(())
+}
+
+// The whole of a program that plays samples: those that its arguments name. A line is written when its sample was played, so that one
+// that cannot be read leaves the lines before it printed. The lines make `run`'s text; of what reaches standard output no clause of the
+// library speaks.
 pub fn print_runs<F: Fn(&HostRuntime, &[u8]) -> anyhow::Result<String>>(
     rt: &HostRuntime,
     ending: &str,
@@ -77,7 +101,12 @@ pub fn print_runs<F: Fn(&HostRuntime, &[u8]) -> anyhow::Result<String>>(
     requires { F.IsAlwaysCallable play }
 {
     let names: Vec<String> = env::args(rt)?.skip(1).collect(rt.alloc())?;
-    let text = run(rt, names.as_slice(), ending, play)?;
-    rt.stdout().write_all(text.as_bytes())?;
+    let _ = run_saying(
+        rt,
+        names.as_slice(),
+        ending,
+        play,
+        |line| print_line(rt, line),
+    )?;
     Ok(())
 }

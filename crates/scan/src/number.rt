@@ -1,6 +1,6 @@
 // Decimal numbers.
 ghost use Rattle.std.specs.Prelude.{◌≡◌, ◌≤◌, true, drop, pos, neg_ℤ, IfSome, if◌then◌else◌, unsigned_abs};
-ghost use Rattle.scan.specs.Number.{digits, step, minus, magnitude_of, number_of};
+ghost use Rattle.scan.specs.Number.{step, minus, magnitude_of, number_of};
 ghost use Rattle.scan.specs.Words.{word_of, after_number};
 
 use super::scan::Scan;
@@ -10,28 +10,26 @@ pub const CAP: u128 = 18_446_744_073_709_551_616;
 
 // One digit more.
 fn further(n: u128, b: u8) -> u128
+    requires { n ≤ 18446744073709551616 }
     ensures { result ≡ step n b }
 {
-    n.saturating_mul(10)
-        .saturating_add(b.saturating_sub(b'0') as u128)
-        .min(CAP)
+    (n * 10 + b.saturating_sub(b'0') as u128).min(CAP)
 }
 
-fn all_digits(word: &[u8]) -> bool
-    ensures { result ≡ digits word.now }
-{
-    word.iter().all(|b| b.is_ascii_digit())
-}
-
-// The number that one or more digits write.
+// The number that one or more digits write. A `for`: by `all` and then `fold`, which read each digit twice, a model's text takes a quarter
+// longer.
 fn magnitude(word: &[u8]) -> Option<u128>
     ensures value { result ≡ magnitude_of word.now }
     ensures bound { IfSome result (λ n. n ≤ 18446744073709551616) }
 {
-    if word.is_empty() || !all_digits(word) {
-        return None;
+    let mut n = 0;
+    for b in word {
+        if !b.is_ascii_digit() {
+            return None;
+        }
+        n = further(n, *b);
     }
-    Some(word.iter().fold(0, |n, b| further(n, *b)))
+    if word.is_empty() { None } else { Some(n) }
 }
 
 // The number that a word writes: digits, with a minus before them or not.

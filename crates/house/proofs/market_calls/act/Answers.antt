@@ -11,7 +11,7 @@ returns-in-Err-clause-rows g c =
     let k = c.args.house.now.market.state in
     let asked : first_no (market_questions m.sets k c.args.call) ≡ Err c.in-Err.refusal =
     ap (λ (x : ℕ). first_no (market_questions x k c.args.call)) (sym c.sets.ensures) ∙ sym c.take.ensures.answer ∙ c.in-Err.is in
-    (market_refused m k c.args.house.now.accounts c.args.records.now c.args.trades.now c.args.call c.args.house.now.some c.requires c.in-Err.refusal asked).0
+    (market_refused m k c.args.house.now.accounts c.args.records.now c.args.trades.now c.args.call c.args.house.now.some c.requires c.in-Err.refusal asked).2
 
 pub returns-in-Err-clause-trades : goal.returns-in-Err-clause-trades
 returns-in-Err-clause-trades g c =
@@ -19,7 +19,7 @@ returns-in-Err-clause-trades g c =
     let k = c.args.house.now.market.state in
     let asked : first_no (market_questions m.sets k c.args.call) ≡ Err c.in-Err.refusal =
     ap (λ (x : ℕ). first_no (market_questions x k c.args.call)) (sym c.sets.ensures) ∙ sym c.take.ensures.answer ∙ c.in-Err.is in
-    (market_refused m k c.args.house.now.accounts c.args.records.now c.args.trades.now c.args.call c.args.house.now.some c.requires c.in-Err.refusal asked).1
+    (market_refused m k c.args.house.now.accounts c.args.records.now c.args.trades.now c.args.call c.args.house.now.some c.requires c.in-Err.refusal asked).3
 
 pub returns-in-Ok : goal.returns-in-Ok
 returns-in-Ok g c =

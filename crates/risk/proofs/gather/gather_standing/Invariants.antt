@@ -1,6 +1,6 @@
 use Rattle.std.proofs.Common.{◌≡◌, ◌≤◌, length, take, filter}
 use Rattle.risk.specs.Groups.{in_group}
-use Rattle.risk.proofs.gather.gather.Given as goal
+use Rattle.risk.proofs.gather.gather_standing.Given as goal
 
 abbrev pub invariant-loop-trade : goal.invariant-loop-trade
 invariant-loop-trade l =
